@@ -26,10 +26,22 @@ returns c =
     let c0 = c1 .before .before in
     let start = c0 .before .before in
     rw (
-      c14 .put327 .ensures, c13 .put326 .ensures, c12 .put643 .ensures, c11 .put642 .ensures,
-      c10 .put325 .ensures, c9 .put324 .ensures, c8 .put323 .ensures, c7 .put322 .ensures,
-      c6 .put-symbol .ensures, c5 .put64 .ensures, c4 .put32 .ensures, c3 .put84 .ensures,
-      c2 .put83 .ensures, c1 .put82 .ensures, c0 .put8 .ensures)
+      c14 .put327 .ensures,
+      c13 .put326 .ensures,
+      c12 .put643 .ensures,
+      c11 .put642 .ensures,
+      c10 .put325 .ensures,
+      c9 .put324 .ensures,
+      c8 .put323 .ensures,
+      c7 .put322 .ensures,
+      c6 .put-symbol .ensures,
+      c5 .put64 .ensures,
+      c4 .put32 .ensures,
+      c3 .put84 .ensures,
+      c2 .put83 .ensures,
+      c1 .put82 .ensures,
+      c0 .put8 .ensures,
+    )
     (written-is (replicate 64 0) (start .args .self) refl)
 
 pub bytes-spec : {M : Type 1} → statement M

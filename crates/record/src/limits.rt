@@ -1,0 +1,87 @@
+// The limits of a row's fields: a range for each, unused fields at zero. Every number of the rules stands here or with its
+// kind, once.
+
+// The lowest number and the highest.
+pub struct R8(pub u8, pub u8);
+
+pub struct R32(pub u32, pub u32);
+
+pub struct R64(pub u64, pub u64);
+
+// A range for each field of a row.
+pub struct Limits {
+    pub kind: R8,
+    pub form: R8,
+    pub status: R8,
+    pub flags: R8,
+    pub party: R32,
+    pub id: R64,
+    pub symbol: R64,
+    pub n1: R32,
+    pub n2: R32,
+    pub n3: R32,
+    pub n4: R32,
+    pub m1: R64,
+    pub m2: R64,
+    pub time: R32,
+    pub n5: R32,
+}
+
+impl Limits {
+    // Unused fields are zero. So are all of a free record's.
+    pub const NONE: Limits = Limits {
+        kind: R8(0, 0),
+        form: R8(0, 0),
+        status: R8(0, 0),
+        flags: R8(0, 0),
+        party: R32(0, 0),
+        id: R64(0, 0),
+        symbol: R64(0, 0),
+        n1: R32(0, 0),
+        n2: R32(0, 0),
+        n3: R32(0, 0),
+        n4: R32(0, 0),
+        m1: R64(0, 0),
+        m2: R64(0, 0),
+        time: R32(0, 0),
+        n5: R32(0, 0),
+    };
+}
+
+// The ranges that several kinds share.
+pub struct Ranges {}
+
+impl Ranges {
+    // A field whose rule is no range: a symbol, or a signed number.
+    pub const ANY32: R32 = R32(0, 0xffff_ffff);
+
+    pub const ANY64: R64 = R64(0, 0xffff_ffff_ffff_ffff);
+    // A number that names a party or a rate.
+    pub const NUMBER: R32 = R32(1, 999_999_999);
+
+    pub const TRADE_NO: R64 = R64(1, 999_999_999_999_999);
+
+    pub const PRICE_MOST: u32 = 99_999_999;
+
+    pub const PRICE: R32 = R32(1, Ranges::PRICE_MOST);
+
+    pub const SHARES_MOST: u32 = 999_999;
+
+    pub const SHARES: R32 = R32(1, Ranges::SHARES_MOST);
+    // Seconds from 2000-01-01.
+    pub const TIME: R32 = R32(0, 4_000_000_000);
+
+    pub const TRADE_TYPE: R8 = R8(1, 5);
+
+    pub const STATUS: R8 = R8(1, 3);
+
+    pub const TIER: R8 = R8(1, 3);
+
+    pub const EXCHANGE: R8 = R8(1, 4);
+
+    pub const CHARGE: R32 = R32(0, 999_999);
+    // A trade's commission, and its tax.
+    pub const FEE: R64 = R64(0, 100_000_000_000_000);
+    // A balance, a settlement and a cash row's amount, either way from zero.
+    pub const MONEY_MOST: u64 = 999_999_999_999_999;
+}
