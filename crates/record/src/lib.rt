@@ -2,6 +2,7 @@
 // values, and the keys. Nothing above this crate reads or writes a byte of a record.
 pub mod bytes;
 pub mod inputs;
+pub mod key;
 pub mod kinds;
 pub mod limits;
 pub mod row;

@@ -1,0 +1,67 @@
+-- A row's key. The table of the kinds marks which fields are the key's; "the rows by kind and then key, its fields in grid order
+-- as numbers, symbols byte by byte". That order is the order of one number. Assumes nothing.
+use mathlib.Core.Bool.{Bool, true, false, cond, _&&_, _||_}
+use mathlib.Core.List.{List, [], _∷_}
+use Prim.Native.Nat.{ℕ, _+_, _*_, _^_}
+use lib.Dec.{eqb, ltb}
+use Rattle.record.specs.declared.row.Row.{Row}
+use Rattle.record.specs.declared.key.Key.{Key}
+
+abbrev amongFrom : Bool → ℕ → List ℕ → Bool
+amongFrom b k [] = b
+amongFrom b k (j ∷ js) = amongFrom (b || eqb k j) k js
+
+-- k is one of these
+abbrev pub among : ℕ → List ℕ → Bool
+among k [] = false
+among k (j ∷ js) = amongFrom (eqb k j) k js
+
+-- the kinds whose key has the field
+abbrev pub byForm : List ℕ
+byForm = 7 ∷ 8 ∷ []
+
+abbrev pub byStatus : List ℕ
+byStatus = 7 ∷ 8 ∷ 11 ∷ []
+
+abbrev pub byFlags : List ℕ
+byFlags = 7 ∷ []
+
+abbrev pub byParty : List ℕ
+byParty = 1 ∷ 2 ∷ 3 ∷ 4 ∷ 5 ∷ 13 ∷ []
+
+abbrev pub byId : List ℕ
+byId = 9 ∷ 10 ∷ 11 ∷ 12 ∷ 14 ∷ 15 ∷ 16 ∷ []
+
+abbrev pub bySymbol : List ℕ
+bySymbol = 6 ∷ 13 ∷ []
+
+abbrev pub byN1 : List ℕ
+byN1 = 4 ∷ 7 ∷ []
+
+abbrev pub byM2 : List ℕ
+byM2 = 14 ∷ []
+
+unfoldable pub keyOf : Row → Key
+keyOf r = record {
+  kind = r .kind;
+  form = cond (among (r .kind) byForm) (r .form) 0;
+  status = cond (among (r .kind) byStatus) (r .status) 0;
+  flags = cond (among (r .kind) byFlags) (r .flags) 0;
+  party = cond (among (r .kind) byParty) (r .party) 0;
+  id = cond (among (r .kind) byId) (r .id) 0;
+  symbol = cond (among (r .kind) bySymbol) (r .symbol) 0;
+  n1 = cond (among (r .kind) byN1) (r .n1) 0;
+  m2 = cond (among (r .kind) byM2) (r .m2) 0;
+}
+
+unfoldable pub sameKey : Key → Key → Bool
+sameKey a b =
+    eqb (a .kind) (b .kind) && eqb (a .form) (b .form) && eqb (a .status) (b .status) && eqb (a .flags) (b .flags)
+    && eqb (a .party) (b .party) && eqb (a .id) (b .id) && eqb (a .symbol) (b .symbol) && eqb (a .n1) (b .n1)
+    && eqb (a .m2) (b .m2)
+
+-- the key as one number: its fields as digits, each in the base of its width
+unfoldable pub keyNumber : Key → ℕ
+keyNumber k =
+    (((((((k .kind * 2 ^ 8 + k .form) * 2 ^ 8 + k .status) * 2 ^ 8 + k .flags) * 2 ^ 32 + k .party) * 2 ^ 64 + k .id) * 2 ^ 64
+    + k .symbol) * 2 ^ 32 + k .n1) * 2 ^ 64 + k .m2
