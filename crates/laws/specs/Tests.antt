@@ -1,6 +1,11 @@
--- Truth values: what a conjunction tells, and a row of tests that all hold. Assumes nothing.
-use mathlib.Core.Path.{_≡_, refl}
-use mathlib.Core.Bool.{Bool, true, false, _&&_, _||_, false≢true}
+-- Truth values, and the propositions that they mean. A test b means P where b is true exactly when P holds: a rule is computed
+-- as a test and used as a proposition. Assumes nothing.
+use mathlib.Core.Path.{_≡_, refl, sym, _∙_}
+use mathlib.Core.Bool.{Bool, true, false, not, _&&_, _||_, false≢true}
+use mathlib.Core.Logic.{_⊎_, inl, inr, ⊎-elim}
+use Prim.Native.Nat.{ℕ, _≤_}
+use lib.Dec.{eqb, leb}
+use borrow.Author.Tests.{leb-true, le-leb, eqb-true, eqb-false, eq-eqb, ne-eqb, not-true}
 
 pub and-left : (a b : Bool) → (a && b) ≡ true → a ≡ true
 and-left true b e = refl
@@ -12,3 +17,71 @@ and-right false b e = absurd (false≢true e)
 
 pub and-both : (a b : Bool) → a ≡ true → b ≡ true → (a && b) ≡ true
 and-both a b e f = rw (e, f)
+
+pub or-false : (a : Bool) → (a || false) ≡ a
+or-false true = refl
+or-false false = refl
+
+-- both, or neither
+infix 40 _⇔_
+abbrev pub _⇔_ : Bool → Bool → Bool
+a ⇔ b = (a && b) || (not a && not b)
+
+-- ---- what a test means
+pub record Means (b : Bool) (P : Type 0) : Type 0 where
+  pub shows : b ≡ true → P
+  pub holds : P → b ≡ true
+
+pub means-le : (a b : ℕ) → Means (leb a b) (a ≤ b)
+means-le a b = record { shows = leb-true a b; holds = le-leb a b }
+
+pub means-eq : (a b : ℕ) → Means (eqb a b) (a ≡ b)
+means-eq a b = record { shows = eqb-true a b; holds = eq-eqb a b }
+
+pub means-ne : (a b : ℕ) → Means (not (eqb a b)) (a ≡ b → ⊥)
+means-ne a b = record { shows = λ e. eqb-false a b (not-true (eqb a b) e); holds = λ n. rw (ne-eqb a b n) }
+
+pub means-and : {a b : Bool} {P Q : Type 0} → Means a P → Means b Q → Means (a && b) (P × Q)
+means-and {a} {b} p q = record {
+  shows = λ e. (p .shows (and-left a b e), q .shows (and-right a b e));
+  holds = λ h. and-both a b (p .holds (h .0)) (q .holds (h .1));
+}
+
+or-cases : (a b : Bool) → (a || b) ≡ true → (a ≡ true) ⊎ (b ≡ true)
+or-cases true b e = inl refl
+or-cases false b e = inr e
+
+or-left : (a b : Bool) → a ≡ true → (a || b) ≡ true
+or-left a b e = rw e
+
+or-right : (a b : Bool) → b ≡ true → (a || b) ≡ true
+or-right true b e = refl
+or-right false b e = e
+
+pub means-or : {a b : Bool} {P Q : Type 0} → Means a P → Means b Q → Means (a || b) (P ⊎ Q)
+means-or {a} {b} p q = record {
+  shows = λ e. ⊎-elim (λ h. inl (p .shows h)) (λ h. inr (q .shows h)) (or-cases a b e);
+  holds = ⊎-elim (λ h. or-left a b (p .holds h)) (λ h. or-right a b (q .holds h));
+}
+
+iff-to : (a b : Bool) → (a ⇔ b) ≡ true → a ≡ true → b ≡ true
+iff-to a true e h = refl
+iff-to true false e h = e
+iff-to false false e h = h
+
+iff-from : (a b : Bool) → (a ⇔ b) ≡ true → b ≡ true → a ≡ true
+iff-from true b e h = refl
+iff-from false true e h = e
+iff-from false false e h = h
+
+iff-both : (a b : Bool) → (a ≡ true → b ≡ true) → (b ≡ true → a ≡ true) → (a ⇔ b) ≡ true
+iff-both true true f g = refl
+iff-both true false f g = f refl
+iff-both false true f g = g refl
+iff-both false false f g = refl
+
+pub means-iff : {a b : Bool} {P Q : Type 0} → Means a P → Means b Q → Means (a ⇔ b) ((P → Q) × (Q → P))
+means-iff {a} {b} p q = record {
+  shows = λ e. (λ h. q .shows (iff-to a b e (p .holds h)), λ h. p .shows (iff-from a b e (q .holds h)));
+  holds = λ h. iff-both a b (λ x. q .holds (h .0 (p .shows x))) (λ x. p .holds (h .1 (q .shows x)));
+}

@@ -45,7 +45,10 @@ length-encode r = refl
 -- the fields written in turn over any 64 elements
 unfoldable pub written : List ℕ → Row → List ℕ
 written l r =
-    stored (stored (stored (stored (stored (stored (stored (stored (sets (stored (stored (stored (stored (stored (stored l 0 1 (r .kind)) 1 1 (r .form)) 2 1 (r .status)) 3 1 (r .flags)) 4 4 (r .party)) 8 8 (r .id)) 16 (spelt 8 (r .symbol))) 24 4 (r .n1)) 28 4 (r .n2)) 32 4 (r .n3)) 36 4 (r .n4)) 40 8 (r .m1)) 48 8 (r .m2)) 56 4 (r .time)) 60 4 (r .n5)
+    let a = stored (stored (stored (stored l 0 1 (r .kind)) 1 1 (r .form)) 2 1 (r .status)) 3 1 (r .flags) in
+    let b = sets (stored (stored a 4 4 (r .party)) 8 8 (r .id)) 16 (spelt 8 (r .symbol)) in
+    let c = stored (stored (stored (stored b 24 4 (r .n1)) 28 4 (r .n2)) 32 4 (r .n3)) 36 4 (r .n4) in
+    stored (stored (stored (stored c 40 8 (r .m1)) 48 8 (r .m2)) 56 4 (r .time)) 60 4 (r .n5)
 
 pub written-is : (l : List ℕ) (r : Row) → length l ≡ 64 → written l r ≡ encode r
 unfolding written encode stored

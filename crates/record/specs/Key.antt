@@ -4,6 +4,7 @@ use mathlib.Core.Bool.{Bool, true, false, cond, _&&_, _||_}
 use mathlib.Core.List.{List, [], _∷_}
 use Prim.Native.Nat.{ℕ, _+_, _*_, _^_}
 use lib.Dec.{eqb, ltb}
+use Rattle.record.specs.Codes.{kindAccount, kindBand, kindBroker, kindCash, kindCharge, kindCustomer, kindCustomerRate, kindLot, kindLotHistory, kindRequest, kindSecurity, kindSettlement, kindSummary, kindTaxRate, kindTrade, kindTradeHistory}
 use Rattle.record.specs.declared.row.Row.{Row}
 use Rattle.record.specs.declared.key.Key.{Key}
 
@@ -18,28 +19,28 @@ among k (j ∷ js) = amongFrom (eqb k j) k js
 
 -- the kinds whose key has the field
 abbrev pub byForm : List ℕ
-byForm = 7 ∷ 8 ∷ []
+byForm = kindBand ∷ kindCharge ∷ []
 
 abbrev pub byStatus : List ℕ
-byStatus = 7 ∷ 8 ∷ 11 ∷ []
+byStatus = kindBand ∷ kindCharge ∷ kindTradeHistory ∷ []
 
 abbrev pub byFlags : List ℕ
-byFlags = 7 ∷ []
+byFlags = kindBand ∷ []
 
 abbrev pub byParty : List ℕ
-byParty = 1 ∷ 2 ∷ 3 ∷ 4 ∷ 5 ∷ 13 ∷ []
+byParty = kindBroker ∷ kindCustomer ∷ kindTaxRate ∷ kindCustomerRate ∷ kindAccount ∷ kindSummary ∷ []
 
 abbrev pub byId : List ℕ
-byId = 9 ∷ 10 ∷ 11 ∷ 12 ∷ 14 ∷ 15 ∷ 16 ∷ []
+byId = kindTrade ∷ kindRequest ∷ kindTradeHistory ∷ kindLot ∷ kindLotHistory ∷ kindSettlement ∷ kindCash ∷ []
 
 abbrev pub bySymbol : List ℕ
-bySymbol = 6 ∷ 13 ∷ []
+bySymbol = kindSecurity ∷ kindSummary ∷ []
 
 abbrev pub byN1 : List ℕ
-byN1 = 4 ∷ 7 ∷ []
+byN1 = kindCustomerRate ∷ kindBand ∷ []
 
 abbrev pub byM2 : List ℕ
-byM2 = 14 ∷ []
+byM2 = kindLotHistory ∷ []
 
 unfoldable pub keyOf : Row → Key
 keyOf r = record {

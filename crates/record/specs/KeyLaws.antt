@@ -46,15 +46,35 @@ lessKey a b = less (ltb (a .kind) (b .kind)) (eqb (a .kind) (b .kind)) (digits a
 
 module _ (a b : Key) (p : SizedKey a) (q : SizedKey b) where
   in-base : InBase (digits a b)
-  in-base =
-      (p .form, q .form,
-      (p .status, q .status,
-      (p .flags, q .flags,
-      (p .party, q .party,
-      (p .id, q .id,
-      (p .symbol, q .symbol,
-      (p .n1, q .n1,
-      (p .m2, q .m2, tt))))))))
+  in-base = (
+    p .form,
+    q .form,
+    (
+      p .status,
+      q .status,
+      (
+        p .flags,
+        q .flags,
+        (
+          p .party,
+          q .party,
+          (
+            p .id,
+            q .id,
+            (
+              p .symbol,
+              q .symbol,
+              (
+                p .n1,
+                q .n1,
+                (p .m2, q .m2, tt),
+              ),
+            ),
+          ),
+        ),
+      ),
+    ),
+  )
 
   pub same-is : sameKey a b ≡ eqb (keyNumber a) (keyNumber b)
   unfolding sameKey keyNumber

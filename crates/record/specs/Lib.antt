@@ -1,7 +1,6 @@
 pub mod Signed
 pub mod Bytes
+pub mod Codes
 pub mod Grid
-pub mod Units
-pub mod Kinds
 pub mod Key
 pub mod KeyLaws

@@ -4,6 +4,7 @@ ghost use mathlib.Core.Path.{_≡_};
 ghost use mathlib.Core.Bool.{cond};
 ghost use lib.Dec.{ltb};
 ghost use Rattle.record.specs.Key.{keyNumber, keyOf, sameKey};
+use crate::codes::Kind;
 use crate::row::Row;
 
 pub struct Key {
@@ -41,24 +42,32 @@ impl Key {
         ensures { λ r. ⌜ r ≡ keyOf row ⌝ }
     {
         let k = row.kind;
-        let by_party = (k == 1) | (k == 2) | (k == 3) | (k == 4) | (k == 5) | (k == 13);
-        let by_id = (k == 9)
-            | (k == 10)
-            | (k == 11)
-            | (k == 12)
-            | (k == 14)
-            | (k == 15)
-            | (k == 16);
+        let by_party = (k == Kind::BROKER)
+            | (k == Kind::CUSTOMER)
+            | (k == Kind::TAX_RATE)
+            | (k == Kind::CUSTOMER_RATE)
+            | (k == Kind::ACCOUNT)
+            | (k == Kind::SUMMARY);
+        let by_id = (k == Kind::TRADE)
+            | (k == Kind::REQUEST)
+            | (k == Kind::TRADE_HISTORY)
+            | (k == Kind::LOT)
+            | (k == Kind::LOT_HISTORY)
+            | (k == Kind::SETTLEMENT)
+            | (k == Kind::CASH);
         Key {
             kind: k,
-            form: kept8((k == 7) | (k == 8), row.form),
-            status: kept8((k == 7) | (k == 8) | (k == 11), row.status),
-            flags: kept8(k == 7, row.flags),
+            form: kept8((k == Kind::BAND) | (k == Kind::CHARGE), row.form),
+            status: kept8(
+                (k == Kind::BAND) | (k == Kind::CHARGE) | (k == Kind::TRADE_HISTORY),
+                row.status,
+            ),
+            flags: kept8(k == Kind::BAND, row.flags),
             party: kept32(by_party, row.party),
             id: kept64(by_id, row.id),
-            symbol: kept64((k == 6) | (k == 13), row.symbol),
-            n1: kept32((k == 4) | (k == 7), row.n1),
-            m2: kept64(k == 14, row.m2),
+            symbol: kept64((k == Kind::SECURITY) | (k == Kind::SUMMARY), row.symbol),
+            n1: kept32((k == Kind::CUSTOMER_RATE) | (k == Kind::BAND), row.n1),
+            m2: kept64(k == Kind::LOT_HISTORY, row.m2),
         }
     }
 

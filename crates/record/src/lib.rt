@@ -1,9 +1,6 @@
-// The grid: 64 bytes as a row of plain numbers and back, the sixteen kinds of row and the four kinds of input as typed
-// values, and the keys. Nothing above this crate reads or writes a byte of a record.
+// The grid: 64 bytes as a row of plain numbers and back, and the keys of rows. Nothing above reads or writes a byte of a record
+// but through this crate.
 pub mod bytes;
-pub mod inputs;
+pub mod codes;
 pub mod key;
-pub mod kinds;
-pub mod limits;
 pub mod row;
-pub mod units;
