@@ -15,7 +15,7 @@ pub record Range : Type 0 where
   pub low : ℕ
   pub high : ℕ
 
-infix 70 _⋯_
+infix 80 _⋯_
 abbrev pub _⋯_ : ℕ → ℕ → Range
 a ⋯ b = record { low = a; high = b }
 
@@ -63,8 +63,8 @@ tier = 1 ⋯ 3
 abbrev pub exchange : Range
 exchange = 1 ⋯ 4
 
-abbrev pub charge : Range
-charge = 0 ⋯ 999_999
+abbrev pub charged : Range
+charged = 0 ⋯ 999_999
 
 -- a trade's commission, and its tax
 abbrev pub fee : Range
@@ -85,7 +85,7 @@ pub record Entry : Type 0 where
   pub field : ℕ
   pub range : Range
 
-infix 60 _∈_
+infix 75 _∈_
 abbrev pub _∈_ : ℕ → Range → Entry
 i ∈ g = record { field = i; range = g }
 

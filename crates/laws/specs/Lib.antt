@@ -1,3 +1,4 @@
 pub mod Tests
+pub mod Numbers
 pub mod Digits
 pub mod Lists
