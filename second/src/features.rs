@@ -1,0 +1,183 @@
+//! What an accepted call had to do, in words, so that one sees whether random cases do enough.
+
+use crate::calls::Call;
+use crate::record::*;
+
+/// Every feature that random cases should show, even on books of 24 records.
+pub const WANTED: &[(Call, &[&str])] = &[
+    (
+        Call::Order,
+        &[
+            "buys",
+            "sells",
+            "waits",
+            "closes lots",
+            "has a gain",
+            "has a loss",
+            "is taxed",
+            "has a gain untaxed",
+            "rolls back",
+            "is LIFO",
+        ],
+    ),
+    (
+        Call::Result,
+        &[
+            "buys",
+            "sells",
+            "closes no lot",
+            "closes one lot",
+            "closes two or more lots",
+            "reduces a lot",
+            "removes lots only",
+            "opens a lot",
+            "closes and opens",
+            "adds a summary",
+            "frees the summary",
+            "changes the summary's sign",
+            "adds to a position",
+            "is taxed",
+            "records the tax only",
+            "has a gain untaxed",
+            "has a loss",
+            "is cash",
+            "is not cash",
+            "is LIFO over two lots",
+            "meets lots of equal time",
+        ],
+    ),
+    (
+        Call::Feed,
+        &[
+            "submits none",
+            "submits one",
+            "submits two or more",
+            "leaves a request on its symbol",
+            "has two entries of one symbol",
+        ],
+    ),
+    (
+        Call::Lookup,
+        &["finds a settlement", "finds none", "names a trade twice"],
+    ),
+];
+
+/// The features of this accepted call.
+pub fn of(
+    call: Call,
+    before: &[u8],
+    after: &[u8],
+    input: &[u8],
+    answer: &[u8],
+) -> Vec<&'static str> {
+    let (before, after) = (rows_of(before), rows_of(after));
+    let (input, answer) = (rows_of(input), rows_of(answer));
+    let mut found = Vec::new();
+    let mut note = |holds: bool, name: &'static str| {
+        if holds {
+            found.push(name);
+        }
+    };
+    match call {
+        Call::Order => {
+            let (input, answer) = (&input[0], &answer[0]);
+            note(buys(input.typ), "buys");
+            note(!buys(input.typ), "sells");
+            note(input.typ >= TLB, "waits");
+            note(answer.m1 > 0, "closes lots");
+            note(answer.m2 > answer.m1, "has a gain");
+            note(answer.m2 < answer.m1, "has a loss");
+            note(answer.tax() > 0, "is taxed");
+            note(
+                answer.m2 > answer.m1 && answer.tax() == 0,
+                "has a gain untaxed",
+            );
+            note(input.flags & FLAG_ROLL_BACK != 0, "rolls back");
+            note(input.flags & FLAG_LIFO != 0, "is LIFO");
+        }
+        Call::Result => {
+            let (input, answer) = (&input[0], &answer[0]);
+            let trade = before.iter().find(|r| r.kind == TRADE && r.id == input.id);
+            let trade = trade.expect("it was accepted");
+            let account = before
+                .iter()
+                .find(|r| r.kind == ACCOUNT && r.party == trade.party);
+            let account = account.expect("S3");
+            let steps: Vec<&Row> = after
+                .iter()
+                .filter(|row| row.kind == LOT_HISTORY && row.m2 == trade.id && row.id != trade.id)
+                .collect();
+            let position = |rows: &[Row]| {
+                rows.iter()
+                    .find(|r| {
+                        r.kind == SUMMARY && r.party == trade.party && r.symbol == trade.symbol
+                    })
+                    .map(|row| row.signed_m1())
+            };
+            let lots: Vec<&Row> = before
+                .iter()
+                .filter(|r| r.kind == LOT && r.party == trade.party && r.symbol == trade.symbol)
+                .collect();
+            let tied = (0..lots.len()).any(|i| (0..i).any(|j| lots[i].time == lots[j].time));
+            let (was, is) = (position(&before), position(&after));
+            let reduces = steps.iter().any(|row| row.n2 != 0);
+            let opens = after.iter().any(|r| r.kind == LOT && r.id == trade.id);
+            let mut gain = 0;
+            for step in &steps {
+                let lot = lots
+                    .iter()
+                    .find(|lot| lot.id == step.id)
+                    .expect("it was closed");
+                let closed = i128::from(step.signed_n1()) - i128::from(step.signed_n2());
+                gain += closed * (i128::from(input.n1) - i128::from(lot.n1));
+            }
+            note(buys(trade.typ), "buys");
+            note(!buys(trade.typ), "sells");
+            note(steps.is_empty(), "closes no lot");
+            note(steps.len() == 1, "closes one lot");
+            note(steps.len() >= 2, "closes two or more lots");
+            note(reduces, "reduces a lot");
+            note(!steps.is_empty() && !reduces, "removes lots only");
+            note(opens, "opens a lot");
+            note(!steps.is_empty() && opens, "closes and opens");
+            note(was.is_none(), "adds a summary");
+            note(was.is_some() && is.is_none(), "frees the summary");
+            note(
+                was.unwrap_or(0).signum() * is.unwrap_or(0).signum() < 0,
+                "changes the summary's sign",
+            );
+            note(was.is_some() && steps.is_empty(), "adds to a position");
+            note(answer.tax() > 0, "is taxed");
+            note(answer.tax() > 0 && account.typ == 2, "records the tax only");
+            note(gain > 0 && answer.tax() == 0, "has a gain untaxed");
+            note(gain < 0, "has a loss");
+            note(trade.flags & FLAG_CASH != 0, "is cash");
+            note(trade.flags & FLAG_CASH == 0, "is not cash");
+            let lifo = trade.flags & FLAG_LIFO != 0;
+            note(lifo && steps.len() >= 2, "is LIFO over two lots");
+            note(tied && !steps.is_empty(), "meets lots of equal time");
+        }
+        Call::Feed => {
+            let answer = &answer[0];
+            note(answer.n2 == 0, "submits none");
+            note(answer.n2 == 1, "submits one");
+            note(answer.n2 >= 2, "submits two or more");
+            let named = |row: &Row| input.iter().any(|entry| entry.symbol == row.symbol);
+            note(
+                after.iter().any(|row| row.kind == REQUEST && named(row)),
+                "leaves a request on its symbol",
+            );
+            let twice =
+                (0..input.len()).any(|i| (0..i).any(|j| input[i].symbol == input[j].symbol));
+            note(twice, "has two entries of one symbol");
+        }
+        Call::Lookup => {
+            let settled = |pair: &[Row]| !pair[1].is_free();
+            note(answer.chunks(2).any(settled), "finds a settlement");
+            note(!answer.chunks(2).all(settled), "finds none");
+            let twice = (0..input.len()).any(|i| (0..i).any(|j| input[i].id == input[j].id));
+            note(twice, "names a trade twice");
+        }
+    }
+    found
+}
