@@ -70,6 +70,39 @@ charged = 0 ⋯ 999_999
 abbrev pub fee : Range
 fee = 0 ⋯ 100_000_000_000_000
 
+-- a broker's trades and its commission total, a security's volume
+abbrev pub brokerTrades : Range
+brokerTrades = 0 ⋯ 999_999_999
+
+abbrev pub commissionTotal : Range
+commissionTotal = 0 ⋯ 999_999_999_999_999
+
+abbrev pub volume : Range
+volume = 0 ⋯ 999_999_999_999
+
+-- hundred-thousandths, of a tax; hundredths of a percent, of a commission
+abbrev pub taxPart : Range
+taxPart = 0 ⋯ 100_000
+
+abbrev pub commissionPart : Range
+commissionPart = 0 ⋯ 10_000
+
+abbrev pub taxStatus : Range
+taxStatus = 0 ⋯ 2
+
+-- cash 1, LIFO 2, roll back 4
+abbrev pub cashFlag : Range
+cashFlag = 0 ⋯ 1
+
+abbrev pub tradeFlags : Range
+tradeFlags = 0 ⋯ 3
+
+abbrev pub orderFlags : Range
+orderFlags = 0 ⋯ 7
+
+abbrev pub dueTime : Range
+dueTime = 0 ⋯ 4_000_172_800
+
 -- a balance, a settlement and a cash row's amount, either way from zero
 abbrev pub moneyMost : ℕ
 moneyMost = 999_999_999_999_999

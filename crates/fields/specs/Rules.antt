@@ -16,22 +16,32 @@ use Rattle.fields.specs.Ranges.{
   Range,
   any32,
   any64,
+  brokerTrades,
+  cashFlag,
   charged,
+  commissionPart,
+  commissionTotal,
+  dueTime,
   exchange,
   fee,
   limited,
   moneyMost,
   number,
   only,
+  orderFlags,
   price,
   priceMost,
   shares,
   sharesMost,
+  taxPart,
+  taxStatus,
   tier,
   time,
+  tradeFlags,
   tradeNumber,
   tradeStatus,
   tradeType,
+  volume,
   kind,
   form,
   status,
@@ -61,7 +71,7 @@ free r = limited r freeLimits
 abbrev pub brokerLimits : List Range
 brokerLimits =
     only
-    (kind ∈ kindBroker ⋯ kindBroker ∷ party ∈ number ∷ n1 ∈ 0 ⋯ 999_999_999 ∷ m1 ∈ 0 ⋯ 999_999_999_999_999 ∷ [])
+    (kind ∈ kindBroker ⋯ kindBroker ∷ party ∈ number ∷ n1 ∈ brokerTrades ∷ m1 ∈ commissionTotal ∷ [])
 
 unfoldable pub broker : Row → Bool
 broker r =
@@ -81,7 +91,7 @@ customer r =
 abbrev pub taxRateLimits : List Range
 taxRateLimits =
     only
-    (kind ∈ kindTaxRate ⋯ kindTaxRate ∷ party ∈ number ∷ n1 ∈ 0 ⋯ 100_000 ∷ [])
+    (kind ∈ kindTaxRate ⋯ kindTaxRate ∷ party ∈ number ∷ n1 ∈ taxPart ∷ [])
 
 unfoldable pub taxRate : Row → Bool
 taxRate r =
@@ -101,8 +111,8 @@ customerRate r =
 abbrev pub accountLimits : List Range
 accountLimits =
     only
-    (kind ∈ kindAccount ⋯ kindAccount ∷ form ∈ 0 ⋯ 2 ∷ party ∈ number ∷ n1 ∈ number ∷ n2 ∈ number ∷ m1 ∈ any64 ∷
-    [])
+    (kind ∈ kindAccount ⋯ kindAccount ∷ form ∈ taxStatus ∷ party ∈ number ∷ n1 ∈ number ∷ n2 ∈ number ∷
+    m1 ∈ any64 ∷ [])
 
 unfoldable pub account : Row → Bool
 account r =
@@ -112,8 +122,8 @@ account r =
 abbrev pub securityLimits : List Range
 securityLimits =
     only
-    (kind ∈ kindSecurity ⋯ kindSecurity ∷ form ∈ exchange ∷ symbol ∈ any64 ∷ n1 ∈ price ∷
-    m1 ∈ 0 ⋯ 999_999_999_999 ∷ when ∈ time ∷ [])
+    (kind ∈ kindSecurity ⋯ kindSecurity ∷ form ∈ exchange ∷ symbol ∈ any64 ∷ n1 ∈ price ∷ m1 ∈ volume ∷
+    when ∈ time ∷ [])
 
 unfoldable pub security : Row → Bool
 security r =
@@ -124,7 +134,7 @@ abbrev pub bandLimits : List Range
 bandLimits =
     only
     (kind ∈ kindBand ⋯ kindBand ∷ form ∈ tradeType ∷ status ∈ tier ∷ flags ∈ exchange ∷ n1 ∈ shares ∷
-    n2 ∈ shares ∷ n3 ∈ 0 ⋯ 10_000 ∷ [])
+    n2 ∈ shares ∷ n3 ∈ commissionPart ∷ [])
 
 unfoldable pub band : Row → Bool
 band r =
@@ -145,9 +155,9 @@ charge r =
 abbrev pub tradeLimits : List Range
 tradeLimits =
     only
-    (kind ∈ kindTrade ⋯ kindTrade ∷ form ∈ tradeType ∷ status ∈ tradeStatus ∷ flags ∈ 0 ⋯ 3 ∷ party ∈ number ∷
-    id ∈ tradeNumber ∷ symbol ∈ any64 ∷ n1 ∈ shares ∷ n2 ∈ price ∷ n3 ∈ 0 ⋯ priceMost ∷ n4 ∈ charged ∷
-    m1 ∈ fee ∷ m2 ∈ fee ∷ when ∈ time ∷ [])
+    (kind ∈ kindTrade ⋯ kindTrade ∷ form ∈ tradeType ∷ status ∈ tradeStatus ∷ flags ∈ tradeFlags ∷
+    party ∈ number ∷ id ∈ tradeNumber ∷ symbol ∈ any64 ∷ n1 ∈ shares ∷ n2 ∈ price ∷ n3 ∈ 0 ⋯ priceMost ∷
+    n4 ∈ charged ∷ m1 ∈ fee ∷ m2 ∈ fee ∷ when ∈ time ∷ [])
 
 unfoldable pub trade : Row → Bool
 trade r =
@@ -211,8 +221,8 @@ lotHistory r =
 abbrev pub settlementLimits : List Range
 settlementLimits =
     only
-    (kind ∈ kindSettlement ⋯ kindSettlement ∷ flags ∈ 0 ⋯ 1 ∷ id ∈ tradeNumber ∷ m1 ∈ any64 ∷
-    when ∈ 0 ⋯ 4_000_172_800 ∷ [])
+    (kind ∈ kindSettlement ⋯ kindSettlement ∷ flags ∈ cashFlag ∷ id ∈ tradeNumber ∷ m1 ∈ any64 ∷ when ∈ dueTime ∷
+    [])
 
 unfoldable pub settlement : Row → Bool
 settlement r =
@@ -232,7 +242,7 @@ cash r =
 abbrev pub orderInputLimits : List Range
 orderInputLimits =
     only
-    (kind ∈ kindOrder ⋯ kindOrder ∷ form ∈ tradeType ∷ flags ∈ 0 ⋯ 7 ∷ party ∈ number ∷ symbol ∈ any64 ∷
+    (kind ∈ kindOrder ⋯ kindOrder ∷ form ∈ tradeType ∷ flags ∈ orderFlags ∷ party ∈ number ∷ symbol ∈ any64 ∷
     n1 ∈ shares ∷ n2 ∈ 0 ⋯ priceMost ∷ when ∈ time ∷ [])
 
 unfoldable pub orderInput : Row → Bool

@@ -1,0 +1,141 @@
+-- The four calls on byte areas: the status, every byte of the answer and every byte of the book. "A refusal leaves the book as found; all
+-- answer bytes are zero but the status, signed, in bytes 60-63 (-100 excepted)." Assumes nothing.
+use mathlib.Core.Path.{_≡_, sym, _∙_}
+use mathlib.Core.Bool.{Bool, true, false, _&&_}
+use mathlib.Core.List.{List, [], _∷_, _++_}
+use Prim.Native.Nat.{ℕ, _*_, _-_}
+use lib.Dec.{eqb}
+use lib.IntN.{ℤ}
+use lib.ListN.{length, replicate}
+use mir.Syntax.{w32}
+use mir.Val.{ofZ}
+use Rattle.laws.specs.Search.{every}
+use Rattle.record.specs.Bytes.{bytesOf}
+use Rattle.record.specs.Grid.{decode}
+use Rattle.record.specs.declared.row.Row.{Row}
+use Rattle.fields.specs.Rules.{feedInput, lookupInput, orderInput, resultInput}
+use Rattle.model.specs.declared.Status.{Status}
+use Rattle.model.specs.declared.Status.the-variants.{Done, BadLength, BadBook, Unsound, BadInput, OverLimit, NoRoom, OrderNoAccount, OrderNoSecurity, OrderNoTax, OrderNoRate, OrderNoCharge, ResultNoTrade, ResultNotSubmitted, ResultNoTax, ResultNoRate, FeedNoSecurity, LookupNoTrade}
+use Rattle.model.specs.Feed.{feed}
+use Rattle.model.specs.Lookup.{lookup}
+use Rattle.model.specs.Order.{order}
+use Rattle.model.specs.Plan.{Outcome, pick, refused}
+use Rattle.model.specs.Result.{result}
+use Rattle.model.specs.Rows.{bytes, mostRecords, recordSize, rows, wholeRecords}
+use Rattle.model.specs.Sound.{sound}
+use Rattle.model.specs.Status.{number}
+
+-- what a call returns and leaves behind
+pub record Reply : Type 0 where
+  pub status : Status
+  pub answer : List ℕ
+  pub book : List ℕ
+
+-- an area of n bytes with the status in bytes 60-63 and zeros elsewhere
+unfoldable pub refusalArea : ℕ → Status → List ℕ
+refusalArea n s = replicate 60 0 ++ bytesOf 4 (ofZ w32 (number s)) ++ replicate (n - recordSize) 0
+
+abbrev isDone : Status → Bool
+isDone Done = true
+isDone BadLength = false
+isDone BadBook = false
+isDone Unsound = false
+isDone BadInput = false
+isDone OverLimit = false
+isDone NoRoom = false
+isDone OrderNoAccount = false
+isDone OrderNoSecurity = false
+isDone OrderNoTax = false
+isDone OrderNoRate = false
+isDone OrderNoCharge = false
+isDone ResultNoTrade = false
+isDone ResultNotSubmitted = false
+isDone ResultNoTax = false
+isDone ResultNoRate = false
+isDone FeedNoSecurity = false
+isDone LookupNoTrade = false
+
+abbrev either : Bool → List ℕ → List ℕ → List ℕ
+either true a b = a
+either false a b = b
+
+unfoldable pub replied : Outcome → List ℕ → List ℕ → Reply
+replied o b answer = record {
+  status = o .status;
+  answer = either (isDone (o .status)) (bytes (o .answer)) (refusalArea (length answer) (o .status));
+  book = either (isDone (o .status)) (bytes (o .rows)) b;
+}
+
+abbrev choose : Bool → Reply → Reply → Reply
+choose true a b = a
+choose false a b = b
+
+-- the shell of every call: the lengths, the book's length, its soundness, the input's fields; then the call's own decision
+unfoldable pub shell : Bool → Bool → (List Row → Outcome) → List ℕ → List ℕ → Reply
+shell lengths inputs decide b answer =
+    let rs = rows b in
+    choose lengths
+    (replied
+    (pick (wholeRecords mostRecords (length b))
+    (pick (sound rs) (pick inputs (decide rs) (refused BadInput rs)) (refused Unsound rs))
+    (refused BadBook rs))
+    b
+    answer)
+    (record { status = BadLength; answer = answer; book = b })
+
+-- "Input: 1 to 20 records"
+abbrev pub mostInputs : ℕ
+mostInputs = 20
+
+unfoldable pub orderCall : List ℕ → List ℕ → List ℕ → Reply
+orderCall b input answer =
+    let i = decode input in
+    shell (eqb (length input) recordSize && eqb (length answer) recordSize) (orderInput i) (λ rs. order rs i) b answer
+
+unfoldable pub resultCall : List ℕ → List ℕ → List ℕ → Reply
+resultCall b input answer =
+    let i = decode input in
+    shell (eqb (length input) recordSize && eqb (length answer) recordSize) (resultInput i) (λ rs. result rs i) b answer
+
+unfoldable pub feedCall : List ℕ → List ℕ → List ℕ → Reply
+feedCall b input answer =
+    let is = rows input in
+    shell (wholeRecords mostInputs (length input) && eqb (length answer) recordSize) (every feedInput is) (λ rs. feed rs is) b
+    answer
+
+unfoldable pub lookupCall : List ℕ → List ℕ → List ℕ → Reply
+lookupCall b input answer =
+    let is = rows input in
+    shell (wholeRecords mostInputs (length input) && eqb (length answer) (2 * length input)) (every lookupInput is)
+    (λ rs. lookup rs is)
+    b
+    answer
+
+-- ---- what a call promises: the number returned, the book and the answer area as they are left
+pub record Promise (reply : Reply) (returned : ℤ) (book answer : List ℕ) : Type 0 where
+  pub returns : returned ≡ number (reply .status)
+  pub keeps : book ≡ reply .book
+  pub says : answer ≡ reply .answer
+
+-- no second answer fits
+pub one-answer : (reply : Reply) (n m : ℤ) (b c a d : List ℕ) → Promise reply n b a → Promise reply m c d
+    → (n ≡ m) × (b ≡ c) × (a ≡ d)
+one-answer reply n m b c a d p q =
+    (p .returns ∙ sym (q .returns), p .keeps ∙ sym (q .keeps), p .says ∙ sym (q .says))
+
+module _ (b input answer : List ℕ) (n m : ℤ) (c d e f : List ℕ) where
+  pub order-unique : Promise (orderCall b input answer) n c e → Promise (orderCall b input answer) m d f
+      → (n ≡ m) × (c ≡ d) × (e ≡ f)
+  order-unique p q = one-answer (orderCall b input answer) n m c d e f p q
+
+  pub result-unique : Promise (resultCall b input answer) n c e → Promise (resultCall b input answer) m d f
+      → (n ≡ m) × (c ≡ d) × (e ≡ f)
+  result-unique p q = one-answer (resultCall b input answer) n m c d e f p q
+
+  pub feed-unique : Promise (feedCall b input answer) n c e → Promise (feedCall b input answer) m d f
+      → (n ≡ m) × (c ≡ d) × (e ≡ f)
+  feed-unique p q = one-answer (feedCall b input answer) n m c d e f p q
+
+  pub lookup-unique : Promise (lookupCall b input answer) n c e → Promise (lookupCall b input answer) m d f
+      → (n ≡ m) × (c ≡ d) × (e ≡ f)
+  lookup-unique p q = one-answer (lookupCall b input answer) n m c d e f p q

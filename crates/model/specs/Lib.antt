@@ -1,0 +1,15 @@
+pub mod Status
+pub mod Rows
+pub mod Names
+pub mod Sound
+pub mod Money
+pub mod Lots
+pub mod Band
+pub mod Edit
+pub mod Plan
+pub mod Result
+pub mod Order
+pub mod Feed
+pub mod Lookup
+pub mod Call
+pub mod Tally

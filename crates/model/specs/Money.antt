@@ -1,0 +1,41 @@
+-- Values, tax, commission and settlement: "Both are rounded to the nearest cent, halves up, so each lies within half a cent of the
+-- exact fraction." Assumes nothing.
+use mathlib.Core.Path.{_≡_}
+use mathlib.Core.Bool.{Bool, true, false, cond, _&&_, _||_}
+use Prim.Native.Nat.{ℕ, _+_, _-_, _*_, _/_, _%_, _≤_}
+use native.Mathlib.Omega.{arith}
+use lib.Dec.{eqb, leb, ltb}
+use lib.IntN.{ℤ, pos, negℤ, _+ℤ_, _-ℤ_}
+use Rattle.record.specs.Codes.{tlb, tmb}
+use Rattle.fields.specs.Ranges.{commissionPart, taxPart}
+
+-- a / b to the nearest whole number, halves up
+abbrev pub rounded : ℕ → ℕ → ℕ
+rounded a b = (2 * a + b) / (2 * b)
+
+-- "1 and 3 buy"
+abbrev pub buys : ℕ → Bool
+buys form = eqb form tmb || eqb form tlb
+
+-- "only for tax status 1 or 2 with sold > bought"
+unfoldable pub taxable : ℕ → ℕ → ℕ → Bool
+taxable status bought sold = leb 1 status && ltb bought sold
+
+-- "(sold - bought) × sum of rates / 100,000"
+unfoldable pub taxOf : ℕ → ℕ → ℕ → ℕ → ℕ
+taxOf status rates bought sold =
+    cond (taxable status bought sold) (rounded ((sold - bought) * rates) (taxPart .high)) 0
+
+-- "gain and tax status 1 or 2, yet tax is 0"
+unfoldable pub untaxed : ℕ → ℕ → ℕ → ℕ → Bool
+untaxed status rates bought sold = taxable status bought sold && eqb (taxOf status rates bought sold) 0
+
+-- "rate × shares × price / 10,000"
+unfoldable pub commissionOf : ℕ → ℕ → ℕ → ℕ
+commissionOf rate shares price = rounded (rate * shares * price) (commissionPart .high)
+
+-- "a sell, value - charge - commission; a buy, -(value + charge + commission); less tax for tax status 1 only"
+unfoldable pub settlementOf : ℕ → ℕ → ℕ → ℕ → ℕ → ℕ → ℤ
+settlementOf form status value charge commission tax =
+    cond (buys form) (negℤ (pos (value + charge + commission))) (pos value -ℤ pos charge -ℤ pos commission)
+    -ℤ pos (cond (eqb status 1) tax 0)

@@ -1,0 +1,120 @@
+-- Order: clause 3.3.7. Input: one record, kind 33; type; flags cash 1, LIFO 2, roll back 4; party; symbol; n1 shares; n2 bid; time.
+-- Assumes nothing.
+use mathlib.Core.Bool.{Bool, true, false, cond, not, _&&_, _||_}
+use mathlib.Core.List.{List, [], _∷_}
+use Prim.Native.Nat.{ℕ, _+_, _%_}
+use lib.Dec.{leb}
+use Rattle.laws.specs.Search.{largest}
+use Rattle.record.specs.Codes.{kindFree, kindOrder, kindRequest, kindTrade, kindTradeHistory, pending, submitted, tms}
+use Rattle.record.specs.declared.row.Row.{Row}
+use Rattle.fields.specs.Ranges.{flags, form, id, kind, m1, m2, n1, n2, n3, n4, party, status, symbol, tradeNumber, when}
+use Rattle.model.specs.declared.Status.the-variants.{OrderNoAccount, OrderNoCharge, OrderNoRate, OrderNoSecurity, OrderNoTax}
+use Rattle.model.specs.Band.{bandRate}
+use Rattle.model.specs.Edit.{_≔_, inSymbol, new}
+use Rattle.model.specs.Lots.{Walk, lotsFor, rollBack, walk}
+use Rattle.model.specs.Money.{commissionOf, taxOf, untaxed}
+use Rattle.model.specs.Names.{aCharge, aCustomer, aSecurity, anAccount}
+use Rattle.model.specs.Plan.{Outcome, Plan, Posting, check, checked, finished, post, refuse, refused}
+use Rattle.model.specs.Rows.{found, is}
+use Rattle.model.specs.Sound.{ratesOf}
+
+-- "number = largest trade number + 1, or 1"
+unfoldable pub nextNumber : List Row → ℕ
+nextNumber rs = largest (λ r. cond (is kindTrade r) (r .id) 0) rs + 1
+
+-- all that an order reads, but for the room
+pub record View : Type 0 where
+  pub account : Row
+  pub security : Row
+  pub charge : ℕ
+  pub rates : ℕ
+  pub rate : ℕ
+  pub lots : List Row
+  pub number : ℕ
+
+unfoldable pub view : List Row → Row → View
+view rs input =
+    let a = found (anAccount (input .party)) rs in
+    let s = found (aSecurity (input .symbol)) rs in
+    let tier = found (aCustomer (a .n2)) rs .form in
+    record {
+      account = a;
+      security = s;
+      charge = found (aCharge (input .form) tier) rs .n1;
+      rates = ratesOf rs (a .n2);
+      rate = bandRate rs (input .form) tier (s .form) (input .n1);
+      lots = lotsFor rs (input .form) (input .flags) (input .party) (input .symbol);
+      number = nextNumber rs;
+    }
+
+-- "types 1 and 2, which use the last price"; they get status 2, others 1
+abbrev atMarket : Row → Bool
+atMarket input = leb (input .form) tms
+
+abbrev pub priceUsed : Row → View → ℕ
+priceUsed input v = cond (atMarket input) (v .security .n1) (input .n2)
+
+abbrev pub firstStatus : Row → ℕ
+firstStatus input = cond (atMarket input) submitted pending
+
+abbrev walked : Row → View → Walk
+walked input v = walk (input .form) (priceUsed input v) (input .n1) (v .lots)
+
+abbrev taxed : Row → View → ℕ
+taxed input v = taxOf (v .account .form) (v .rates) (walked input v .bought) (walked input v .sold)
+
+-- "It adds a trade .., with n2 the price used, the charge, the estimated commission and tax zero"
+abbrev tradeAdded : Row → View → Row
+tradeAdded input v =
+    new (
+    kind ≔ kindTrade ∷ form ≔ input .form ∷ status ≔ firstStatus input ∷ flags ≔ (input .flags % 4)
+    ∷ party ≔ input .party ∷ id ≔ v .number ∷ symbol ≔ input .symbol ∷ n1 ≔ input .n1 ∷ n2 ≔ priceUsed input v
+    ∷ n4 ≔ v .charge ∷ m1 ≔ commissionOf (v .rate) (input .n1) (priceUsed input v) ∷ when ≔ input .time ∷ [])
+
+abbrev historyAdded : Row → View → Row
+historyAdded input v =
+    new (kind ≔ kindTradeHistory ∷ status ≔ firstStatus input ∷ id ≔ v .number ∷ when ≔ input .time ∷ [])
+
+abbrev requestAdded : Row → View → Row
+requestAdded input v =
+    new (
+    kind ≔ kindRequest ∷ form ≔ input .form ∷ party ≔ v .account .n1 ∷ id ≔ v .number ∷ symbol ≔ input .symbol
+    ∷ n1 ≔ input .n1 ∷ n2 ≔ priceUsed input v ∷ [])
+
+unfoldable pub posting : Row → View → Posting
+posting input v = record {
+  changes = [];
+  freed = [];
+  added = tradeAdded input v ∷ historyAdded input v ∷ cond (atMarket input) [] (requestAdded input v ∷ []);
+  answer =
+      new (
+      kind ≔ kindOrder ∷ id ≔ v .number ∷ symbol ≔ inSymbol (taxed input v) ∷ n1 ≔ v .charge ∷ n2 ≔ v .rate
+      ∷ n3 ≔ priceUsed input v ∷ m1 ≔ walked input v .bought ∷ m2 ≔ walked input v .sold ∷ []);
+}
+
+unfoldable pub plan : Row → View → Plan
+plan input v =
+    checked
+    (check (not (is kindFree (v .account))) OrderNoAccount
+    ∷ check (not (is kindFree (v .security))) OrderNoSecurity
+    ∷ check (not (untaxed (v .account .form) (v .rates) (walked input v .bought) (walked input v .sold))) OrderNoTax
+    ∷ check (leb 1 (v .rate)) OrderNoRate
+    ∷ check (leb 1 (v .charge)) OrderNoCharge
+    ∷ [])
+    (posting input v)
+
+-- "With roll back, the answer is the one it would have had and the book is unchanged."
+abbrev unposted : List Row → Outcome → Outcome
+unposted rs o = record { status = o .status; answer = o .answer; rows = rs }
+
+abbrev kept : Bool → List Row → Outcome → Outcome
+kept true rs o = unposted rs o
+kept false rs o = o
+
+unfoldable pub finish : List Row → Row → ℕ → Plan → Outcome
+finish rs input number (refuse s) = refused s rs
+finish rs input number (post p) = kept (rollBack (input .flags)) rs (finished (leb number (tradeNumber .high)) p rs)
+
+-- an order on a sound book's rows
+unfoldable pub order : List Row → Row → Outcome
+order rs input = let v = view rs input in finish rs input (v .number) (plan input v)

@@ -1,0 +1,40 @@
+-- "Status numbers, in order of checking." Each status has this paper's number, here and nowhere else. Assumes nothing.
+use Prim.Native.Nat.{ℕ}
+use lib.IntN.{ℤ, pos, negℤ}
+use mathlib.Core.Bool.{Bool, true, false}
+use mathlib.Core.List.{List, [], _∷_}
+use Rattle.model.specs.declared.Status.{Status}
+use Rattle.model.specs.declared.Status.the-variants.{Done, BadLength, BadBook, Unsound, BadInput, OverLimit, NoRoom, OrderNoAccount, OrderNoSecurity, OrderNoTax, OrderNoRate, OrderNoCharge, ResultNoTrade, ResultNotSubmitted, ResultNoTax, ResultNoRate, FeedNoSecurity, LookupNoTrade}
+
+-- -n, for n above zero
+abbrev minus : ℕ → ℤ
+minus n = negℤ (pos n)
+
+abbrev pub number : Status → ℤ
+number Done = pos 0
+number BadLength = minus 100
+number BadBook = minus 101
+number Unsound = minus 102
+number BadInput = minus 103
+number OverLimit = minus 104
+number NoRoom = minus 105
+number OrderNoAccount = minus 711
+number OrderNoSecurity = minus 712
+number OrderNoTax = minus 731
+number OrderNoRate = minus 732
+number OrderNoCharge = minus 733
+number ResultNoTrade = minus 811
+number ResultNotSubmitted = minus 812
+number ResultNoTax = minus 831
+number ResultNoRate = minus 841
+number FeedNoSecurity = minus 311
+number LookupNoTrade = minus 611
+
+abbrev otherwise : Bool → Status → Status → Status
+otherwise true s t = s
+otherwise false s t = t
+
+-- the first test of a list that fails gives its status, and where none fails it is Done
+abbrev pub firstFailing : List (Bool × Status) → Status
+firstFailing [] = Done
+firstFailing (c ∷ cs) = otherwise (c .0) (firstFailing cs) (c .1)
