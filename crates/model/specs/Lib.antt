@@ -13,3 +13,6 @@ pub mod Feed
 pub mod Lookup
 pub mod Call
 pub mod Tally
+pub mod Evaluate
+pub mod Sample
+pub mod Figures

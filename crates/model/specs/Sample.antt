@@ -1,0 +1,104 @@
+-- The book of "Figures to check against", and its variants. Assumes nothing.
+use mathlib.Core.List.{List, [], _∷_, _++_}
+use Prim.Native.Nat.{ℕ, _+_, _*_}
+use lib.IntN.{ℤ, pos, negℤ}
+use lib.ListN.{replicate}
+use Rattle.record.specs.Codes.{completed, kindAccount, kindBand, kindBroker, kindCharge, kindCustomer, kindCustomerRate, kindFeed, kindLot, kindLookup, kindOrder, kindRequest, kindResult, kindSecurity, kindSettlement, kindSummary, kindTaxRate, kindTrade, kindTradeHistory, pending, submitted, tlb, tmb, tms}
+use Rattle.record.specs.declared.row.Row.{Row}
+use Rattle.fields.specs.Ranges.{flags, form, id, kind, m1, m2, n1, n2, n3, n4, party, status, symbol, when}
+use Rattle.model.specs.Edit.{_≔_, bits64, new}
+use Rattle.model.specs.Rows.{nothing}
+
+-- "ABC", "ABCDEFG" and the eight letters "ABCDEFGH", each as its bytes
+abbrev pub abc : ℕ
+abc = 0x4142_4300_0000_0000
+
+abbrev pub seven : ℕ
+seven = 0x4142_4344_4546_4700
+
+abbrev pub eight : ℕ
+eight = 0x4142_4344_4546_4748
+
+-- what does not change: account 1 with balance 1,000,000, tax status 1 and rates 20,000; bands 1..1,000 at rate 50
+abbrev standing : List Row
+standing =
+    new (kind ≔ kindBroker ∷ party ≔ 1 ∷ [])
+    ∷ new (kind ≔ kindCustomer ∷ form ≔ 1 ∷ party ≔ 1 ∷ [])
+    ∷ new (kind ≔ kindTaxRate ∷ party ≔ 1 ∷ n1 ≔ 20_000 ∷ [])
+    ∷ new (kind ≔ kindCustomerRate ∷ party ≔ 1 ∷ n1 ≔ 1 ∷ [])
+    ∷ new (kind ≔ kindAccount ∷ form ≔ 1 ∷ party ≔ 1 ∷ n1 ≔ 1 ∷ n2 ≔ 1 ∷ m1 ≔ 1_000_000 ∷ [])
+    ∷ new (kind ≔ kindSecurity ∷ form ≔ 1 ∷ symbol ≔ abc ∷ n1 ≔ 3_000 ∷ [])
+    ∷ new (kind ≔ kindSecurity ∷ form ≔ 1 ∷ symbol ≔ seven ∷ n1 ≔ 100 ∷ [])
+    ∷ new (kind ≔ kindBand ∷ form ≔ tmb ∷ status ≔ 1 ∷ flags ≔ 1 ∷ n1 ≔ 1 ∷ n2 ≔ 1_000 ∷ n3 ≔ 50 ∷ [])
+    ∷ new (kind ≔ kindBand ∷ form ≔ tms ∷ status ≔ 1 ∷ flags ≔ 1 ∷ n1 ≔ 1 ∷ n2 ≔ 1_000 ∷ n3 ≔ 50 ∷ [])
+    ∷ new (kind ≔ kindCharge ∷ form ≔ tmb ∷ status ≔ 1 ∷ n1 ≔ 500 ∷ [])
+    ∷ new (kind ≔ kindCharge ∷ form ≔ tms ∷ status ≔ 1 ∷ n1 ≔ 500 ∷ [])
+    ∷ []
+
+-- a completed trade that is not cash, with its history, its settlement and its lot of so many shares
+abbrev bought : ℕ → ℕ → ℕ → ℤ → ℕ → ℕ → List Row
+bought number type shares left price time =
+    new (
+    kind ≔ kindTrade ∷ form ≔ type ∷ status ≔ completed ∷ party ≔ 1 ∷ id ≔ number ∷ symbol ≔ abc ∷ n1 ≔ shares ∷ n2 ≔ price
+    ∷ n3 ≔ price ∷ when ≔ time ∷ [])
+    ∷ new (kind ≔ kindTradeHistory ∷ status ≔ completed ∷ id ≔ number ∷ when ≔ time ∷ [])
+    ∷ new (kind ≔ kindSettlement ∷ id ≔ number ∷ m1 ≔ bits64 (negℤ (pos (shares * price))) ∷ when ≔ (time + 172_800) ∷ [])
+    ∷ new (
+    kind ≔ kindLot ∷ party ≔ 1 ∷ id ≔ number ∷ symbol ≔ abc ∷ n1 ≔ price ∷ m1 ≔ bits64 left ∷ when ≔ time ∷ [])
+    ∷ []
+
+abbrev summary : ℤ → Row
+summary shares = new (kind ≔ kindSummary ∷ party ≔ 1 ∷ symbol ≔ abc ∷ m1 ≔ bits64 shares ∷ [])
+
+-- trade 12, submitted, with charge 500
+abbrev awaiting : ℕ → ℕ → ℕ → List Row
+awaiting type flag shares =
+    new (
+    kind ≔ kindTrade ∷ form ≔ type ∷ status ≔ submitted ∷ flags ≔ flag ∷ party ≔ 1 ∷ id ≔ 12 ∷ symbol ≔ abc ∷ n1 ≔ shares
+    ∷ n2 ≔ 3_000 ∷ n4 ≔ 500 ∷ when ≔ 300 ∷ [])
+    ∷ new (kind ≔ kindTradeHistory ∷ status ≔ submitted ∷ id ≔ 12 ∷ when ≔ 300 ∷ [])
+    ∷ []
+
+-- lots of trade 10, 100 at 2,000, and of trade 11, 50 at 2,500; trade 12 sells for cash; so many places free
+abbrev pub selling : ℕ → ℕ → ℕ → List Row
+selling flag shares places =
+    standing ++ bought 10 tmb 100 (pos 100) 2_000 100 ++ bought 11 tmb 50 (pos 50) 2_500 200 ++ summary (pos 150)
+    ∷ awaiting tms flag shares ++ replicate places nothing
+
+-- one lot of -50 at 3,000; trade 12 buys for cash
+abbrev pub buying : ℕ → List Row
+buying shares =
+    standing ++ bought 10 tms 50 (negℤ (pos 50)) 3_000 100 ++ summary (negℤ (pos 50)) ∷ awaiting tmb 1 shares
+    ++ replicate 8 nothing
+
+-- one share at a price; trade 12 sells one
+abbrev pub gaining : ℕ → List Row
+gaining price =
+    standing ++ bought 10 tmb 1 (pos 1) price 100 ++ summary (pos 1) ∷ awaiting tms 1 1 ++ replicate 8 nothing
+
+-- a request: trade 20, TLB, bid 500
+abbrev pub waiting : List Row
+waiting =
+    standing
+    ++ new (
+    kind ≔ kindTrade ∷ form ≔ tlb ∷ status ≔ pending ∷ party ≔ 1 ∷ id ≔ 20 ∷ symbol ≔ abc ∷ n1 ≔ 5 ∷ n2 ≔ 500 ∷ when ≔ 50
+    ∷ [])
+    ∷ new (kind ≔ kindTradeHistory ∷ status ≔ pending ∷ id ≔ 20 ∷ when ≔ 50 ∷ [])
+    ∷ new (kind ≔ kindRequest ∷ form ≔ tlb ∷ party ≔ 1 ∷ id ≔ 20 ∷ symbol ≔ abc ∷ n1 ≔ 5 ∷ n2 ≔ 500 ∷ [])
+    ∷ nothing
+    ∷ nothing
+    ∷ []
+
+-- the inputs
+abbrev pub resultAt : ℕ → Row
+resultAt price = new (kind ≔ kindResult ∷ id ≔ 12 ∷ n1 ≔ price ∷ when ≔ 1_000 ∷ [])
+
+abbrev pub entryAt : ℕ → Row
+entryAt price = new (kind ≔ kindFeed ∷ symbol ≔ abc ∷ n1 ≔ price ∷ n2 ≔ 10 ∷ when ≔ 1_000 ∷ [])
+
+abbrev pub orderFor : ℕ → ℕ → Row
+orderFor sym shares =
+    new (kind ≔ kindOrder ∷ form ≔ tmb ∷ flags ≔ 1 ∷ party ≔ 1 ∷ symbol ≔ sym ∷ n1 ≔ shares ∷ when ≔ 1_000 ∷ [])
+
+abbrev pub lookupOf : ℕ → Row
+lookupOf number = new (kind ≔ kindLookup ∷ id ≔ number ∷ [])
