@@ -29,7 +29,7 @@ use Rattle.model.specs.Sound.{ratesOf, s1, s2, s3, s4, s5, s6, s7, s8, s
 use Rattle.model.specs.Tally.{bookStatus, tallied, tally, tallyStatus}
 
 unfoldable pub soundOpened : List Row → Bool
-unfolding the every keep total count sumZ keyOf sameKey limited near symbolOk free broker customer taxRate customerRate account security band charge trade request tradeHistory lot summary lotHistory settlement cash fits found hasKey there named ratesOf s1 s2 s3 s4 s5 s6 s7 s8 s9 s10 sound chunk decode rows joined encode bytes wholeRecords sameRow sameRow
+unfolding the every keep total count sumZ keyOf sameKey limited near symbolOk free broker customer taxRate customerRate account security band charge trade request tradeHistory lot summary lotHistory settlement cash fits found hasKey there named ratesOf s1 s2 s3 s4 s5 s6 s7 s8 s9 s10 sound chunk decode rows joined encode bytes wholeRecords sameRow
 soundOpened rs = sound rs
 
 unfoldable pub orderOpened : List ℕ → List ℕ → List ℕ → Reply
