@@ -1,9 +1,12 @@
 -- What each rule of the grid means, as a proposition: the bounds of each field, and the rules that are no range. `means-..`: the
 -- test is true exactly when the proposition holds. Assumes nothing.
-use mathlib.Core.Path.{_≡_}
+use mathlib.Core.Path.{_≡_, sym, ap, _∙_}
+use mathlib.Core.Bool.{Bool, false, false≢true}
+use mathlib.Core.List.{List, [], _∷_}
 use mathlib.Core.Logic.{_⊎_}
 use Prim.Native.Nat.{_≤_}
 use lib.IntN.{natAbs}
+use lib.ListN.{getD, List·getD-map}
 use mir.Syntax.{w32, w64}
 use mir.Val.{toZ}
 use Rattle.laws.specs.Tests.{Means, means-le, means-eq, means-ne, means-and, means-or, means-iff}
@@ -13,6 +16,7 @@ use Rattle.fields.specs.Ranges.{Limited, means-limited, moneyMost, share
 use Rattle.fields.specs.Signed.{means-near}
 use Rattle.fields.specs.Symbol.{Symbol, means-symbol}
 use Rattle.fields.specs.Rules.{
+  fits,
   free,
   freeLimits,
   broker,
@@ -203,3 +207,50 @@ LookupInput r = Limited r lookupInputLimits
 pub means-lookup-input : (r : Row) → Means (lookupInput r) (LookupInput r)
 unfolding lookupInput
 means-lookup-input r = means-limited r lookupInputLimits
+
+-- ---- the rule of a row's own kind
+pub record Rule : Type 1 where
+  pub test : Row → Bool
+  pub Meaning : Row → Type 0
+  pub means : (r : Row) → Means (test r) (Meaning r)
+
+abbrev noRule : Rule
+noRule = record {
+  test = λ r. false;
+  Meaning = λ r. ⊥;
+  means = λ r. record { shows = λ e. false≢true e; holds = λ h. absurd h };
+}
+
+abbrev grid : List Rule
+grid =
+    record { test = free; Meaning = Free; means = means-free }
+    ∷ record { test = broker; Meaning = Broker; means = means-broker }
+    ∷ record { test = customer; Meaning = Customer; means = means-customer }
+    ∷ record { test = taxRate; Meaning = TaxRate; means = means-tax-rate }
+    ∷ record { test = customerRate; Meaning = CustomerRate; means = means-customer-rate }
+    ∷ record { test = account; Meaning = Account; means = means-account }
+    ∷ record { test = security; Meaning = Security; means = means-security }
+    ∷ record { test = band; Meaning = Band; means = means-band }
+    ∷ record { test = charge; Meaning = Charge; means = means-charge }
+    ∷ record { test = trade; Meaning = Trade; means = means-trade }
+    ∷ record { test = request; Meaning = Request; means = means-request }
+    ∷ record { test = tradeHistory; Meaning = TradeHistory; means = means-trade-history }
+    ∷ record { test = lot; Meaning = Lot; means = means-lot }
+    ∷ record { test = summary; Meaning = Summary; means = means-summary }
+    ∷ record { test = lotHistory; Meaning = LotHistory; means = means-lot-history }
+    ∷ record { test = settlement; Meaning = Settlement; means = means-settlement }
+    ∷ record { test = cash; Meaning = Cash; means = means-cash }
+    ∷ []
+
+-- the row is free or fits the grid
+abbrev pub Fits : Row → Type 0
+Fits r = getD grid (r .kind) noRule .Meaning r
+
+by-rule : (r : Row) → fits r ≡ getD grid (r .kind) noRule .test r
+unfolding fits
+by-rule r = ap (λ (f : Row → Bool). f r) (List·getD-map (λ (u : Rule). u .test) grid (r .kind) noRule)
+
+pub means-fits : (r : Row) → Means (fits r) (Fits r)
+means-fits r =
+    let m = getD grid (r .kind) noRule .means r in
+    record { shows = λ e. m .shows (sym (by-rule r) ∙ e); holds = λ h. by-rule r ∙ m .holds h }

@@ -1,7 +1,7 @@
 -- Truth values, and the propositions that they mean. A test b means P where b is true exactly when P holds: a rule is computed
 -- as a test and used as a proposition. Assumes nothing.
 use mathlib.Core.Path.{_≡_, refl, sym, _∙_}
-use mathlib.Core.Bool.{Bool, true, false, not, _&&_, _||_, false≢true}
+use mathlib.Core.Bool.{Bool, true, false, cond, not, _&&_, _||_, false≢true}
 use mathlib.Core.Logic.{_⊎_, inl, inr, ⊎-elim}
 use Prim.Native.Nat.{ℕ, _≤_}
 use lib.Dec.{eqb, leb}
@@ -84,4 +84,43 @@ pub means-iff : {a b : Bool} {P Q : Type 0} → Means a P → Means b Q → Mean
 means-iff {a} {b} p q = record {
   shows = λ e. (λ h. q .shows (iff-to a b e (p .holds h)), λ h. p .shows (iff-from a b e (q .holds h)));
   holds = λ h. iff-both a b (λ x. q .holds (h .0 (p .shows x))) (λ x. p .holds (h .1 (q .shows x)));
+}
+
+imp-to : (a b : Bool) → (not a || b) ≡ true → a ≡ true → b ≡ true
+imp-to true b e h = e
+imp-to false b e h = absurd (false≢true h)
+
+imp-from : (a b : Bool) → (a ≡ true → b ≡ true) → (not a || b) ≡ true
+imp-from true b h = h refl
+imp-from false b h = refl
+
+-- where the first holds, so does the second
+pub means-imp : {a b : Bool} {P Q : Type 0} → Means a P → Means b Q → Means (not a || b) (P → Q)
+means-imp {a} {b} p q = record {
+  shows = λ e h. q .shows (imp-to a b e (p .holds h));
+  holds = λ h. imp-from a b (λ x. q .holds (h (p .shows x)));
+}
+
+cond-yes : (a x y : Bool) → cond a x y ≡ true → a ≡ true → x ≡ true
+cond-yes true x y e h = e
+cond-yes false x y e h = absurd (false≢true h)
+
+cond-not : (a x y : Bool) → cond a x y ≡ true → (a ≡ true → ⊥) → y ≡ true
+cond-not true x y e h = absurd (h refl)
+cond-not false x y e h = e
+
+cond-both : (a x y : Bool) → (a ≡ true → x ≡ true) → ((a ≡ true → ⊥) → y ≡ true) → cond a x y ≡ true
+cond-both true x y f g = f refl
+cond-both false x y f g = g (λ h. false≢true h)
+
+-- one rule where the test holds, and another where it does not
+pub means-cond : {a x y : Bool} {P X Y : Type 0} → Means a P → Means x X → Means y Y
+    → Means (cond a x y) ((P → X) × ((P → ⊥) → Y))
+means-cond {a} {x} {y} p f g = record {
+  shows = λ e. (
+    λ h. f .shows (cond-yes a x y e (p .holds h)),
+    λ n. g .shows (cond-not a x y e (λ t. n (p .shows t))),
+  );
+  holds = λ h.
+      cond-both a x y (λ t. f .holds (h .0 (p .shows t))) (λ n. g .holds (h .1 (λ q. n (p .holds q))));
 }

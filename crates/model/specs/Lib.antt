@@ -2,6 +2,7 @@ pub mod Status
 pub mod Rows
 pub mod Names
 pub mod Sound
+pub mod SoundMeans
 pub mod Money
 pub mod Lots
 pub mod Band
@@ -16,3 +17,4 @@ pub mod Tally
 pub mod Evaluate
 pub mod Sample
 pub mod Figures
+pub mod Witness

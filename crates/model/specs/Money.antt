@@ -13,6 +13,16 @@ use Rattle.fields.specs.Ranges.{commissionPart, taxPart}
 abbrev pub rounded : ℕ → ℕ → ℕ
 rounded a b = (2 * a + b) / (2 * b)
 
+-- "each lies within half a cent of the exact fraction": twice the error is at most the divisor, either way
+pub tax-near : (a : ℕ) → (2 * (rounded a (taxPart .high) * taxPart .high) ≤ 2 * a + taxPart .high)
+    × (2 * a ≤ 2 * (rounded a (taxPart .high) * taxPart .high) + taxPart .high)
+tax-near a = omega arith
+
+pub commission-near : (a : ℕ)
+    → (2 * (rounded a (commissionPart .high) * commissionPart .high) ≤ 2 * a + commissionPart .high)
+    × (2 * a ≤ 2 * (rounded a (commissionPart .high) * commissionPart .high) + commissionPart .high)
+commission-near a = omega arith
+
 -- "1 and 3 buy"
 abbrev pub buys : ℕ → Bool
 buys form = eqb form tmb || eqb form tlb

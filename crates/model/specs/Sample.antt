@@ -77,17 +77,21 @@ gaining price =
     standing ++ bought 10 tmb 1 (pos 1) price 100 ++ summary (pos 1) ∷ awaiting tms 1 1 ++ replicate 8 nothing
 
 -- a request: trade 20, TLB, bid 500
-abbrev pub waiting : List Row
-waiting =
-    standing
-    ++ new (
+abbrev requested : List Row
+requested =
+    new (
     kind ≔ kindTrade ∷ form ≔ tlb ∷ status ≔ pending ∷ party ≔ 1 ∷ id ≔ 20 ∷ symbol ≔ abc ∷ n1 ≔ 5 ∷ n2 ≔ 500 ∷ when ≔ 50
     ∷ [])
     ∷ new (kind ≔ kindTradeHistory ∷ status ≔ pending ∷ id ≔ 20 ∷ when ≔ 50 ∷ [])
     ∷ new (kind ≔ kindRequest ∷ form ≔ tlb ∷ party ≔ 1 ∷ id ≔ 20 ∷ symbol ≔ abc ∷ n1 ≔ 5 ∷ n2 ≔ 500 ∷ [])
-    ∷ nothing
-    ∷ nothing
     ∷ []
+
+abbrev pub waiting : List Row
+waiting = standing ++ requested ++ nothing ∷ nothing ∷ []
+
+-- lots, a submitted trade and a request
+abbrev pub day : List Row
+day = requested ++ selling 1 120 8
 
 -- the inputs
 abbrev pub resultAt : ℕ → Row
