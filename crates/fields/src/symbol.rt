@@ -10,7 +10,7 @@ fn is_letter(b: u64) -> bool
     ((65 <= b) & (b <= 90)) | ((48 <= b) & (b <= 57)) | (b == 46) | (b == 45)
 }
 
-// After the byte a comes a zero, or a letter if a was none.
+// After the byte a comes a zero, or a letter where a was not zero.
 fn may_follow(a: u64, b: u64) -> bool
     ensures { λ r. ⌜ r ≡ follows a b ⌝ }
 {

@@ -13,11 +13,10 @@ use Rattle.laws.specs.Sort.{sort}
 use Rattle.record.specs.Codes.{kindFeed, kindFree, kindRequest, kindTradeHistory, pending, submitted, tlb, tls, tsl}
 use Rattle.record.specs.declared.row.Row.{Row}
 use Rattle.fields.specs.Ranges.{id, kind, m1, n1, n2, status, volume, when}
-use Rattle.model.specs.declared.Status.{Status}
-use Rattle.model.specs.declared.Status.the-variants.{Done, FeedNoSecurity, NoRoom, OverLimit}
+use Rattle.model.specs.declared.Status.the-variants.{FeedNoSecurity}
 use Rattle.model.specs.Edit.{_≔_, changed, new}
 use Rattle.model.specs.Names.{aSecurity, aTrade}
-use Rattle.model.specs.Plan.{Outcome, accepted, pick, refused, room}
+use Rattle.model.specs.Plan.{Outcome, accepted, limited, pick, refused}
 use Rattle.model.specs.Rows.{found, is, nothing, sameRow, there}
 
 -- the entry's price reaches the request's bid
@@ -74,7 +73,5 @@ feed rs es =
     let f = run applied (record { rows = rs; trades = 0 }) es in
     let answer = new (kind ≔ kindFeed ∷ n1 ≔ length es ∷ n2 ≔ f .trades ∷ []) in
     pick (every (λ (e : Row). there (aSecurity (e .symbol)) rs) es)
-    (pick (volumesFit (f .rows) es)
-    (pick (leb (f .trades) (room rs)) (accepted (answer ∷ []) (swept (f .rows))) (refused NoRoom rs))
-    (refused OverLimit rs))
+    (limited (volumesFit (f .rows) es) (f .trades) rs (accepted (answer ∷ []) (swept (f .rows))))
     (refused FeedNoSecurity rs)

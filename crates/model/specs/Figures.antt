@@ -1,22 +1,22 @@
 -- "Figures to check against": one table of cases, and one claim about the rules, which the checker computes. Each case goes through the
 -- call on its byte areas, so its book is found sound on the way. Assumes nothing.
 use mathlib.Core.Path.{_≡_, refl}
-use mathlib.Core.Bool.{Bool, true}
 use mathlib.Core.List.{List, [], _∷_, map}
 use Prim.Native.Nat.{ℕ}
 use lib.IntN.{ℤ, pos, negℤ}
 use lib.ListN.{replicate}
 use mir.Syntax.{w64}
 use mir.Val.{toZ}
+use Rattle.laws.specs.Search.{count}
 use Rattle.record.specs.Bytes.{le}
+use Rattle.record.specs.Codes.{kindLot, kindRequest, kindSummary}
 use Rattle.record.specs.Grid.{encode}
 use Rattle.record.specs.declared.row.Row.{Row}
 use Rattle.model.specs.Call.{Reply, feedCall, orderCall, resultCall}
-use Rattle.model.specs.Evaluate.{feedOpened, orderOpened, resultOpened, soundOpened, tallyOpened}
-use Rattle.model.specs.Money.{commissionOf}
+use Rattle.model.specs.Evaluate.{feedOpened, orderOpened, resultOpened, tallyOpened}
 use Rattle.model.specs.Names.{aLot, aSummary, aTrade}
-use Rattle.model.specs.Rows.{bytes, found, rows}
-use Rattle.model.specs.Sample.{abc, buying, eight, entryAt, gaining, orderFor, resultAt, selling, seven, waiting}
+use Rattle.model.specs.Rows.{bytes, found, is, rows}
+use Rattle.model.specs.Sample.{abc, buying, eight, entryAt, gaining, lastAt, orderFor, resultAt, selling, seven, waiting}
 use Rattle.model.specs.Status.{number}
 use Rattle.model.specs.Tally.{tally}
 
@@ -24,13 +24,13 @@ pub data Case : Type 0 where
   aResult : List Row → Row → Case
   aFeed : List Row → Row → Case
   anOrder : List Row → Row → Case
-  aCommission : ℕ → ℕ → ℕ → Case
 
 -- an answer area that was not clean
 abbrev area : List ℕ
 area = replicate 64 7
 
--- status, tax, commission, settlement, balance, the shares of lots 10, 11 and 12, and the summary
+-- status, tax, commission, settlement, balance, the shares of lots 10, 11 and 12, and the summary; then how many lots and summaries
+-- there are
 abbrev afterResult : Reply → List ℤ
 afterResult r =
     let rs = rows (r .book) in
@@ -43,19 +43,25 @@ afterResult r =
     ∷ toZ w64 (found (aLot 11) rs .m1)
     ∷ toZ w64 (found (aLot 12) rs .m1)
     ∷ toZ w64 (found (aSummary 1 abc) rs .m1)
+    ∷ pos (count (is kindLot) rs)
+    ∷ pos (count (is kindSummary) rs)
     ∷ []
 
--- status, trades submitted, the status of trade 20
+-- status, trades submitted, the status of trade 20, and how many requests there are
 abbrev afterFeed : Reply → List ℤ
 afterFeed r =
-    number (r .status) ∷ pos (le 4 (r .answer) 28) ∷ pos (found (aTrade 20) (rows (r .book)) .status) ∷ []
+    let rs = rows (r .book) in
+    number (r .status) ∷ pos (le 4 (r .answer) 28) ∷ pos (found (aTrade 20) rs .status) ∷ pos (count (is kindRequest) rs) ∷ []
+
+-- status, and the commission of the trade that was added
+abbrev afterOrder : Reply → List ℤ
+afterOrder r = number (r .status) ∷ pos (found (aTrade (le 8 (r .answer) 8)) (rows (r .book)) .m1) ∷ []
 
 unfoldable pub seen : Case → List ℤ
 unfolding resultOpened feedOpened orderOpened
 seen (aResult rs input) = afterResult (resultCall (bytes rs) (encode input) area)
 seen (aFeed rs input) = afterFeed (feedCall (bytes rs) (encode input) area)
-seen (anOrder rs input) = number (orderCall (bytes rs) (encode input) area .status) ∷ []
-seen (aCommission rate shares price) = pos (commissionOf rate shares price) ∷ []
+seen (anOrder rs input) = afterOrder (orderCall (bytes rs) (encode input) area)
 
 pub record Figure : Type 0 where
   pub case : Case
@@ -72,29 +78,29 @@ minus n = negℤ (pos n)
 abbrev pub table : List Figure
 table =
     (aResult (selling 1 120 6) (resultAt 3_000) gives
-    (pos 0 ∷ pos 22_000 ∷ pos 1_800 ∷ pos 335_700 ∷ pos 1_335_700 ∷ pos 0 ∷ pos 30 ∷ pos 0 ∷ pos 30 ∷ []))
+    (pos 0 ∷ pos 22_000 ∷ pos 1_800 ∷ pos 335_700 ∷ pos 1_335_700 ∷ pos 0 ∷ pos 30 ∷ pos 0 ∷ pos 30 ∷ pos 1 ∷ pos 1 ∷ []))
     ∷ (aResult (selling 3 120 6) (resultAt 3_000) gives
-    (pos 0 ∷ pos 19_000 ∷ pos 1_800 ∷ pos 338_700 ∷ pos 1_338_700 ∷ pos 30 ∷ pos 0 ∷ pos 0 ∷ pos 30 ∷ []))
+    (pos 0 ∷ pos 19_000 ∷ pos 1_800 ∷ pos 338_700 ∷ pos 1_338_700 ∷ pos 30 ∷ pos 0 ∷ pos 0 ∷ pos 30 ∷ pos 1 ∷ pos 1 ∷ []))
     ∷ (aResult (selling 1 150 6) (resultAt 3_000) gives
-    (pos 0 ∷ pos 25_000 ∷ pos 2_250 ∷ pos 422_250 ∷ pos 1_422_250 ∷ pos 0 ∷ pos 0 ∷ pos 0 ∷ pos 0 ∷ []))
+    (pos 0 ∷ pos 25_000 ∷ pos 2_250 ∷ pos 422_250 ∷ pos 1_422_250 ∷ pos 0 ∷ pos 0 ∷ pos 0 ∷ pos 0 ∷ pos 0 ∷ pos 0 ∷ []))
     ∷ (aResult (selling 1 200 8) (resultAt 3_000) gives
-    (pos 0 ∷ pos 25_000 ∷ pos 3_000 ∷ pos 571_500 ∷ pos 1_571_500 ∷ pos 0 ∷ pos 0 ∷ minus 50 ∷ minus 50 ∷ []))
+    (pos 0 ∷ pos 25_000 ∷ pos 3_000 ∷ pos 571_500 ∷ pos 1_571_500 ∷ pos 0 ∷ pos 0 ∷ minus 50 ∷ minus 50 ∷ pos 1 ∷ pos 1 ∷ []))
     ∷ (aResult (buying 80) (resultAt 2_900) gives
-    (pos 0 ∷ pos 1_000 ∷ pos 1_160 ∷ minus 234_660 ∷ pos 765_340 ∷ pos 0 ∷ pos 0 ∷ pos 30 ∷ pos 30 ∷ []))
-    ∷ (aCommission 50 1 100 gives (pos 1 ∷ []))
-    ∷ (aCommission 50 1 99 gives (pos 0 ∷ []))
+    (pos 0 ∷ pos 1_000 ∷ pos 1_160 ∷ minus 234_660 ∷ pos 765_340 ∷ pos 0 ∷ pos 0 ∷ pos 30 ∷ pos 30 ∷ pos 1 ∷ pos 1 ∷ []))
+    ∷ (anOrder (lastAt 100) (orderFor abc 1) gives (pos 0 ∷ pos 1 ∷ []))
+    ∷ (anOrder (lastAt 99) (orderFor abc 1) gives (pos 0 ∷ pos 0 ∷ []))
     ∷ (aResult (gaining 2_997) (resultAt 3_000) gives
-    (pos 0 ∷ pos 1 ∷ pos 15 ∷ pos 2_484 ∷ pos 1_002_484 ∷ pos 0 ∷ pos 0 ∷ pos 0 ∷ pos 0 ∷ []))
+    (pos 0 ∷ pos 1 ∷ pos 15 ∷ pos 2_484 ∷ pos 1_002_484 ∷ pos 0 ∷ pos 0 ∷ pos 0 ∷ pos 0 ∷ pos 0 ∷ pos 0 ∷ []))
     ∷ (aResult (gaining 2_998) (resultAt 3_000) gives
-    (minus 831 ∷ pos 0 ∷ pos 0 ∷ pos 0 ∷ pos 0 ∷ pos 1 ∷ pos 0 ∷ pos 0 ∷ pos 1 ∷ []))
-    ∷ (aFeed waiting (entryAt 500) gives (pos 0 ∷ pos 1 ∷ pos 2 ∷ []))
-    ∷ (aFeed waiting (entryAt 501) gives (pos 0 ∷ pos 0 ∷ pos 1 ∷ []))
-    ∷ (anOrder waiting (orderFor seven 5) gives (pos 0 ∷ []))
-    ∷ (anOrder waiting (orderFor eight 5) gives (minus 103 ∷ []))
+    (minus 831 ∷ pos 0 ∷ pos 0 ∷ pos 0 ∷ pos 0 ∷ pos 1 ∷ pos 0 ∷ pos 0 ∷ pos 1 ∷ pos 1 ∷ pos 1 ∷ []))
+    ∷ (aFeed waiting (entryAt 500) gives (pos 0 ∷ pos 1 ∷ pos 2 ∷ pos 0 ∷ []))
+    ∷ (aFeed waiting (entryAt 501) gives (pos 0 ∷ pos 0 ∷ pos 1 ∷ pos 1 ∷ []))
+    ∷ (anOrder waiting (orderFor seven 5) gives (pos 0 ∷ pos 3 ∷ []))
+    ∷ (anOrder waiting (orderFor eight 5) gives (minus 103 ∷ pos 0 ∷ []))
     ∷ (aResult (selling 1 120 5) (resultAt 3_000) gives
-    (pos 0 ∷ pos 22_000 ∷ pos 1_800 ∷ pos 335_700 ∷ pos 1_335_700 ∷ pos 0 ∷ pos 30 ∷ pos 0 ∷ pos 30 ∷ []))
+    (pos 0 ∷ pos 22_000 ∷ pos 1_800 ∷ pos 335_700 ∷ pos 1_335_700 ∷ pos 0 ∷ pos 30 ∷ pos 0 ∷ pos 30 ∷ pos 1 ∷ pos 1 ∷ []))
     ∷ (aResult (selling 1 120 4) (resultAt 3_000) gives
-    (minus 105 ∷ pos 0 ∷ pos 0 ∷ pos 0 ∷ pos 0 ∷ pos 100 ∷ pos 50 ∷ pos 0 ∷ pos 150 ∷ []))
+    (minus 105 ∷ pos 0 ∷ pos 0 ∷ pos 0 ∷ pos 0 ∷ pos 100 ∷ pos 50 ∷ pos 0 ∷ pos 150 ∷ pos 2 ∷ pos 1 ∷ []))
     ∷ []
 
 -- the rules give the figures

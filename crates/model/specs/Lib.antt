@@ -1,6 +1,7 @@
 pub mod Status
 pub mod Rows
 pub mod Names
+pub mod Flags
 pub mod Sound
 pub mod SoundMeans
 pub mod Money
@@ -17,4 +18,5 @@ pub mod Tally
 pub mod Evaluate
 pub mod Sample
 pub mod Figures
+pub mod Refusals
 pub mod Witness

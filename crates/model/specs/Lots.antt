@@ -2,29 +2,23 @@
 -- with LIFO. After each lot the walk holds shares still needed, bought value and sold value. A lot larger than the need is reduced;
 -- else it is removed .. For a sell, closed shares add their lot price to bought and the trade price to sold; for a buy, the
 -- reverse." Assumes nothing.
+use mathlib.Core.Path.{_≡_, refl}
 use mathlib.Core.Bool.{Bool, true, false, cond, not, _&&_, _||_}
 use mathlib.Core.List.{List, [], _∷_}
-use Prim.Native.Nat.{ℕ, _+_, _-_, _*_, _/_, _%_, min}
+use Prim.Native.Nat.{ℕ, _+_, _-_, _*_, min}
+use native.Mathlib.Omega.{arith}
 use lib.Dec.{eqb, leb, ltb}
 use lib.IntN.{ℤ, pos, negℤ, natAbs}
+use borrow.Author.Tests.{eqb-true}
 use mir.Syntax.{w64}
 use mir.Val.{toZ}
 use Rattle.laws.specs.Tests.{_⇔_}
-use Rattle.laws.specs.Search.{keep, run}
+use Rattle.laws.specs.Search.{keep, run, total}
 use Rattle.laws.specs.Sort.{sort}
 use Rattle.record.specs.declared.row.Row.{Row}
+use Rattle.model.specs.Flags.{lifo}
 use Rattle.model.specs.Money.{buys}
 use Rattle.model.specs.Sound.{lotOf, short}
-
--- the flags of a trade and of an order: cash 1, LIFO 2, roll back 4
-abbrev pub cash : ℕ → Bool
-cash flags = eqb (flags % 2) 1
-
-abbrev pub lifo : ℕ → Bool
-lifo flags = eqb (flags / 2 % 2) 1
-
-abbrev pub rollBack : ℕ → Bool
-rollBack flags = eqb (flags / 4 % 2) 1
 
 -- a comes before b, by time and then by number
 abbrev pub earlier : Row → Row → Bool
@@ -52,15 +46,16 @@ pub record Walk : Type 0 where
 abbrev pub start : ℕ → Walk
 start shares = record { need = shares; bought = 0; sold = 0 }
 
--- one lot: as many of its shares as are needed
+-- as many of a lot's shares as are needed
+abbrev pub taken : ℕ → Row → ℕ
+taken need l = min need (size l)
+
 abbrev pub step : ℕ → ℕ → Walk → Row → Walk
-step form price w l =
-    let taken = min (w .need) (size l) in
-    record {
-      need = w .need - taken;
-      bought = w .bought + taken * cond (buys form) price (l .n1);
-      sold = w .sold + taken * cond (buys form) (l .n1) price;
-    }
+step form price w l = record {
+  need = w .need - taken (w .need) l;
+  bought = w .bought + taken (w .need) l * cond (buys form) price (l .n1);
+  sold = w .sold + taken (w .need) l * cond (buys form) (l .n1) price;
+}
 
 unfoldable pub walk : ℕ → ℕ → ℕ → List Row → Walk
 walk form price shares lots = run (step form price) (start shares) lots
@@ -68,10 +63,34 @@ walk form price shares lots = run (step form price) (start shares) lots
 -- a lot that is closed in whole or in part, and the shares taken from it
 pub record Closing : Type 0 where
   pub lot : Row
-  pub taken : ℕ
+  pub shares : ℕ
 
 -- the lots in turn, for as long as there is a need
 unfoldable pub closings : ℕ → List Row → List Closing
 closings need [] = []
 closings need (l ∷ ls) =
-    cond (eqb need 0) [] (record { lot = l; taken = min need (size l) } ∷ closings (need - min need (size l)) ls)
+    cond (eqb need 0) [] (record { lot = l; shares = taken need l } ∷ closings (need - taken need l) ls)
+
+-- what is taken from lots and what is still needed are the shares of the trade
+unclosed : (form price : ℕ) (w : Walk) (ls : List Row) → w .need ≡ 0 → run (step form price) w ls .need ≡ 0
+unfolding run
+unclosed form price w [] e = e
+unclosed form price w (l ∷ ls) e = unclosed form price (step form price w l) ls (omega arith)
+
+all-shares : (form price : ℕ) (w : Walk) (ls : List Row)
+    → total (λ (c : Closing). c .shares) (closings (w .need) ls) + run (step form price) w ls .need ≡ w .need
+unfolding run closings total
+all-shares form price w [] = omega arith
+all-shares form price w (l ∷ ls) = go (eqb (w .need) 0) refl (all-shares form price (step form price w l) ls)
+  where
+    rest : ℕ
+    rest = run (step form price) (step form price w l) ls .need
+
+    first : List Closing
+    first = record { lot = l; shares = taken (w .need) l } ∷ closings (w .need - taken (w .need) l) ls
+
+    go : (t : Bool) → eqb (w .need) 0 ≡ t
+        → total (λ (c : Closing). c .shares) (closings (w .need - taken (w .need) l) ls) + rest ≡ w .need - taken (w .need) l
+        → total (λ (c : Closing). c .shares) (cond t [] first) + rest ≡ w .need
+    go true e ih = omega (arith, eqb-true (w .need) 0 e, unclosed form price (step form price w l) ls (omega (arith, eqb-true (w .need) 0 e)))
+    go false e ih = omega arith

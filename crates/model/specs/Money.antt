@@ -1,11 +1,11 @@
 -- Values, tax, commission and settlement: "Both are rounded to the nearest cent, halves up, so each lies within half a cent of the
 -- exact fraction." Assumes nothing.
-use mathlib.Core.Path.{_≡_}
+use mathlib.Core.Path.{_≡_, refl, sym, ap}
 use mathlib.Core.Bool.{Bool, true, false, cond, _&&_, _||_}
 use Prim.Native.Nat.{ℕ, _+_, _-_, _*_, _/_, _%_, _≤_}
 use native.Mathlib.Omega.{arith}
 use lib.Dec.{eqb, leb, ltb}
-use lib.IntN.{ℤ, pos, negℤ, _+ℤ_, _-ℤ_}
+use lib.IntN.{ℤ, pos, negℤ, _-ℤ_, +ℤ-idr}
 use Rattle.record.specs.Codes.{tlb, tmb}
 use Rattle.fields.specs.Ranges.{commissionPart, taxPart}
 
@@ -49,3 +49,16 @@ unfoldable pub settlementOf : ℕ → ℕ → ℕ → ℕ → ℕ → ℕ → �
 settlementOf form status value charge commission tax =
     cond (buys form) (negℤ (pos (value + charge + commission))) (pos value -ℤ pos charge -ℤ pos commission)
     -ℤ pos (cond (eqb status 1) tax 0)
+
+-- tax status 2 "only records it"; for tax status 1 the settlement is less by the tax
+pub recorded-only : (form value charge commission tax : ℕ)
+    → settlementOf form 2 value charge commission tax ≡ settlementOf form 2 value charge commission 0
+unfolding settlementOf
+recorded-only form value charge commission tax = refl
+
+pub subtracted : (form value charge commission tax : ℕ)
+    → settlementOf form 1 value charge commission tax ≡ settlementOf form 0 value charge commission 0 -ℤ pos tax
+unfolding settlementOf
+subtracted form value charge commission tax =
+    ap (λ (z : ℤ). z -ℤ pos tax)
+    (sym (+ℤ-idr (cond (buys form) (negℤ (pos (value + charge + commission))) (pos value -ℤ pos charge -ℤ pos commission))))

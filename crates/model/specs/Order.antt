@@ -11,7 +11,8 @@ use Rattle.fields.specs.Ranges.{flags, form, id, kind, m1, m2, n1, n2, n3, n4, 
 use Rattle.model.specs.declared.Status.the-variants.{OrderNoAccount, OrderNoCharge, OrderNoRate, OrderNoSecurity, OrderNoTax}
 use Rattle.model.specs.Band.{bandRate}
 use Rattle.model.specs.Edit.{_≔_, inSymbol, new}
-use Rattle.model.specs.Lots.{Walk, lotsFor, rollBack, walk}
+use Rattle.model.specs.Flags.{rollBack}
+use Rattle.model.specs.Lots.{Walk, lotsFor, walk}
 use Rattle.model.specs.Money.{commissionOf, taxOf, untaxed}
 use Rattle.model.specs.Names.{aCharge, aCustomer, aSecurity, anAccount}
 use Rattle.model.specs.Plan.{Outcome, Plan, Posting, check, checked, finished, post, refuse, refused}

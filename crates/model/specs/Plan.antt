@@ -64,9 +64,9 @@ abbrev pub pick : Bool → Outcome → Outcome → Outcome
 pick true a b = a
 pick false a b = b
 
--- "Given exactly when": a limit left is -104, and then too few free places are -105
+-- the checks that come last for every call that adds rows: a limit left is -104, and then too few free places are -105
+unfoldable pub limited : Bool → ℕ → List Row → Outcome → Outcome
+limited within more rs o = pick within (pick (leb more (room rs)) o (refused NoRoom rs)) (refused OverLimit rs)
+
 unfoldable pub finished : Bool → Posting → List Row → Outcome
-finished within p rs =
-    pick within
-    (pick (leb (length (p .added)) (room rs)) (accepted (p .answer ∷ []) (posted p rs)) (refused NoRoom rs))
-    (refused OverLimit rs)
+finished within p rs = limited within (length (p .added)) rs (accepted (p .answer ∷ []) (posted p rs))

@@ -12,7 +12,8 @@ use Rattle.record.specs.declared.row.Row.{Row}
 use Rattle.fields.specs.Ranges.{brokerTrades, commissionTotal, flags, id, kind, m1, m2, moneyMost, n1, n2, n3, party, status, symbol, when}
 use Rattle.model.specs.declared.Status.the-variants.{ResultNoRate, ResultNoTax, ResultNoTrade, ResultNotSubmitted}
 use Rattle.model.specs.Edit.{_≔_, bits32, bits64, changed, inSymbol, new}
-use Rattle.model.specs.Lots.{Closing, Walk, cash, closings, lotsFor, size, walk}
+use Rattle.model.specs.Flags.{cash}
+use Rattle.model.specs.Lots.{Closing, Walk, closings, lotsFor, size, walk}
 use Rattle.model.specs.Band.{bandRate}
 use Rattle.model.specs.Money.{buys, commissionOf, settlementOf, taxOf, untaxed}
 use Rattle.model.specs.Names.{aBroker, aCustomer, aSecurity, aSummary, aTrade, anAccount}
@@ -21,8 +22,8 @@ use Rattle.model.specs.Rows.{found, is}
 use Rattle.model.specs.Sound.{ratesOf}
 
 -- "Due time is time + 172,800."
-abbrev pub settlementDays : ℕ
-settlementDays = 172_800
+abbrev pub settlementSeconds : ℕ
+settlementSeconds = 172_800
 
 -- all that a result reads, but for the broker and the room
 pub record View : Type 0 where
@@ -78,10 +79,10 @@ signed form n = cond (buys form) (pos n) (negℤ (pos n))
 
 -- what is left of a lot: it has the other sign
 abbrev pub leftOf : ℕ → Closing → ℤ
-leftOf form c = negℤ (signed form (size (c .lot) - c .taken))
+leftOf form c = negℤ (signed form (size (c .lot) - c .shares))
 
 abbrev reduced : Closing → Bool
-reduced c = ltb (c .taken) (size (c .lot))
+reduced c = ltb (c .shares) (size (c .lot))
 
 abbrev lotChange : ℕ → Closing → Row × Row
 lotChange form c = (c .lot, changed (c .lot) (m1 ≔ bits64 (leftOf form c) ∷ []))
@@ -144,7 +145,7 @@ finalRows input t f =
     new (kind ≔ kindTradeHistory ∷ status ≔ completed ∷ id ≔ t .id ∷ when ≔ input .time ∷ [])
     ∷ new (
     kind ≔ kindSettlement ∷ flags ≔ cond (cash (t .flags)) 1 0 ∷ id ≔ t .id ∷ m1 ≔ bits64 (f .settlement)
-    ∷ when ≔ (input .time + settlementDays) ∷ [])
+    ∷ when ≔ (input .time + settlementSeconds) ∷ [])
     ∷ cond (cash (t .flags))
     (new (kind ≔ kindCash ∷ id ≔ t .id ∷ m1 ≔ bits64 (f .settlement) ∷ when ≔ input .time ∷ []) ∷ [])
     []

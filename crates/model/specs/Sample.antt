@@ -1,12 +1,17 @@
 -- The book of "Figures to check against", and its variants. Assumes nothing.
-use mathlib.Core.List.{List, [], _∷_, _++_}
+use mathlib.Core.Bool.{cond, not, _&&_}
+use mathlib.Core.List.{List, [], _∷_, _++_, map}
 use Prim.Native.Nat.{ℕ, _+_, _*_}
+use lib.Dec.{eqb}
 use lib.IntN.{ℤ, pos, negℤ}
 use lib.ListN.{replicate}
+use Rattle.laws.specs.Search.{keep}
 use Rattle.record.specs.Codes.{completed, kindAccount, kindBand, kindBroker, kindCharge, kindCustomer, kindCustomerRate, kindFeed, kindLot, kindLookup, kindOrder, kindRequest, kindResult, kindSecurity, kindSettlement, kindSummary, kindTaxRate, kindTrade, kindTradeHistory, pending, submitted, tlb, tmb, tms}
 use Rattle.record.specs.declared.row.Row.{Row}
-use Rattle.fields.specs.Ranges.{flags, form, id, kind, m1, m2, n1, n2, n3, n4, party, status, symbol, when}
-use Rattle.model.specs.Edit.{_≔_, bits64, new}
+use Rattle.fields.specs.Ranges.{flags, form, id, kind, m1, m2, n1, n2, n3, n4, party, status, symbol, tradeNumber, volume, brokerTrades, when}
+use Rattle.model.specs.Edit.{_≔_, bits64, changed, new}
+use Rattle.model.specs.Money.{buys}
+use Rattle.model.specs.Result.{settlementSeconds}
 use Rattle.model.specs.Rows.{nothing}
 
 -- "ABC", "ABCDEFG" and the eight letters "ABCDEFGH", each as its bytes
@@ -36,13 +41,13 @@ standing =
     ∷ []
 
 -- a completed trade that is not cash, with its history, its settlement and its lot of so many shares
-abbrev bought : ℕ → ℕ → ℕ → ℤ → ℕ → ℕ → List Row
-bought number type shares left price time =
+abbrev done : ℕ → ℕ → ℕ → ℤ → ℕ → ℕ → List Row
+done number type shares left price time =
     new (
     kind ≔ kindTrade ∷ form ≔ type ∷ status ≔ completed ∷ party ≔ 1 ∷ id ≔ number ∷ symbol ≔ abc ∷ n1 ≔ shares ∷ n2 ≔ price
     ∷ n3 ≔ price ∷ when ≔ time ∷ [])
     ∷ new (kind ≔ kindTradeHistory ∷ status ≔ completed ∷ id ≔ number ∷ when ≔ time ∷ [])
-    ∷ new (kind ≔ kindSettlement ∷ id ≔ number ∷ m1 ≔ bits64 (negℤ (pos (shares * price))) ∷ when ≔ (time + 172_800) ∷ [])
+    ∷ new (kind ≔ kindSettlement ∷ id ≔ number ∷ m1 ≔ bits64 (cond (buys type) (negℤ (pos (shares * price))) (pos (shares * price))) ∷ when ≔ (time + settlementSeconds) ∷ [])
     ∷ new (
     kind ≔ kindLot ∷ party ≔ 1 ∷ id ≔ number ∷ symbol ≔ abc ∷ n1 ≔ price ∷ m1 ≔ bits64 left ∷ when ≔ time ∷ [])
     ∷ []
@@ -62,19 +67,19 @@ awaiting type flag shares =
 -- lots of trade 10, 100 at 2,000, and of trade 11, 50 at 2,500; trade 12 sells for cash; so many places free
 abbrev pub selling : ℕ → ℕ → ℕ → List Row
 selling flag shares places =
-    standing ++ bought 10 tmb 100 (pos 100) 2_000 100 ++ bought 11 tmb 50 (pos 50) 2_500 200 ++ summary (pos 150)
+    standing ++ done 10 tmb 100 (pos 100) 2_000 100 ++ done 11 tmb 50 (pos 50) 2_500 200 ++ summary (pos 150)
     ∷ awaiting tms flag shares ++ replicate places nothing
 
 -- one lot of -50 at 3,000; trade 12 buys for cash
 abbrev pub buying : ℕ → List Row
 buying shares =
-    standing ++ bought 10 tms 50 (negℤ (pos 50)) 3_000 100 ++ summary (negℤ (pos 50)) ∷ awaiting tmb 1 shares
+    standing ++ done 10 tms 50 (negℤ (pos 50)) 3_000 100 ++ summary (negℤ (pos 50)) ∷ awaiting tmb 1 shares
     ++ replicate 8 nothing
 
 -- one share at a price; trade 12 sells one
 abbrev pub gaining : ℕ → List Row
 gaining price =
-    standing ++ bought 10 tmb 1 (pos 1) price 100 ++ summary (pos 1) ∷ awaiting tms 1 1 ++ replicate 8 nothing
+    standing ++ done 10 tmb 1 (pos 1) price 100 ++ summary (pos 1) ∷ awaiting tms 1 1 ++ replicate 8 nothing
 
 -- a request: trade 20, TLB, bid 500
 abbrev requested : List Row
@@ -93,6 +98,13 @@ waiting = standing ++ requested ++ nothing ∷ nothing ∷ []
 abbrev pub day : List Row
 day = requested ++ selling 1 120 8
 
+-- a security at this last price
+abbrev priced : ℕ → Row → Row
+priced price r = cond (eqb (r .kind) kindSecurity) (changed r (n1 ≔ price ∷ [])) r
+
+abbrev pub lastAt : ℕ → List Row
+lastAt price = map (priced price) waiting
+
 -- the inputs
 abbrev pub resultAt : ℕ → Row
 resultAt price = new (kind ≔ kindResult ∷ id ≔ 12 ∷ n1 ≔ price ∷ when ≔ 1_000 ∷ [])
@@ -100,9 +112,35 @@ resultAt price = new (kind ≔ kindResult ∷ id ≔ 12 ∷ n1 ≔ price ∷ whe
 abbrev pub entryAt : ℕ → Row
 entryAt price = new (kind ≔ kindFeed ∷ symbol ≔ abc ∷ n1 ≔ price ∷ n2 ≔ 10 ∷ when ≔ 1_000 ∷ [])
 
+abbrev pub orderOf : ℕ → ℕ → ℕ → ℕ → Row
+orderOf type owner sym shares =
+    new (kind ≔ kindOrder ∷ form ≔ type ∷ flags ≔ 1 ∷ party ≔ owner ∷ symbol ≔ sym ∷ n1 ≔ shares ∷ when ≔ 1_000 ∷ [])
+
 abbrev pub orderFor : ℕ → ℕ → Row
-orderFor sym shares =
-    new (kind ≔ kindOrder ∷ form ≔ tmb ∷ flags ≔ 1 ∷ party ≔ 1 ∷ symbol ≔ sym ∷ n1 ≔ shares ∷ when ≔ 1_000 ∷ [])
+orderFor sym shares = orderOf tmb 1 sym shares
 
 abbrev pub lookupOf : ℕ → Row
 lookupOf number = new (kind ≔ kindLookup ∷ id ≔ number ∷ [])
+
+-- ---- books that lack something, or are at a limit
+abbrev pub without : ℕ → List Row → List Row
+without k rs = keep (λ (r : Row). not (eqb (r .kind) k)) rs
+
+-- a pending trade with the largest number there is, and its request
+abbrev pub lastNumber : List Row
+lastNumber =
+    new (
+    kind ≔ kindTrade ∷ form ≔ tlb ∷ status ≔ pending ∷ party ≔ 1 ∷ id ≔ tradeNumber .high ∷ symbol ≔ abc ∷ n1 ≔ 5 ∷ n2 ≔ 400
+    ∷ [])
+    ∷ new (kind ≔ kindTradeHistory ∷ status ≔ pending ∷ id ≔ tradeNumber .high ∷ [])
+    ∷ new (kind ≔ kindRequest ∷ form ≔ tlb ∷ party ≔ 1 ∷ id ≔ tradeNumber .high ∷ symbol ≔ abc ∷ n1 ≔ 5 ∷ n2 ≔ 400 ∷ [])
+    ∷ []
+
+-- the broker's trades and the volume of "ABC" at their ends
+abbrev filledUp : Row → Row
+filledUp r =
+    cond (eqb (r .kind) kindBroker) (changed r (n1 ≔ brokerTrades .high ∷ []))
+    (cond (eqb (r .symbol) abc && eqb (r .kind) kindSecurity) (changed r (m1 ≔ volume .high ∷ [])) r)
+
+abbrev pub atLimits : List Row → List Row
+atLimits rs = map filledUp rs

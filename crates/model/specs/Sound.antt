@@ -1,7 +1,7 @@
 -- "A sound book", S1 to S10, each under its own name, as a test over all rows. Assumes nothing.
 use mathlib.Core.Bool.{Bool, true, cond, not, _&&_, _||_}
 use mathlib.Core.List.{List}
-use Prim.Native.Nat.{ℕ, _%_}
+use Prim.Native.Nat.{ℕ}
 use lib.Dec.{eqb, leb, ltb}
 use lib.IntN.{ℤ, pos}
 use lib.Signed.{leZ, ltZ}
@@ -14,6 +14,7 @@ use Rattle.record.specs.Key.{keyOf}
 use Rattle.record.specs.declared.row.Row.{Row}
 use Rattle.fields.specs.Ranges.{taxPart}
 use Rattle.fields.specs.Rules.{fits}
+use Rattle.model.specs.Flags.{cash}
 use Rattle.model.specs.Names.{aCash, aHistory, aRequest, aSettlement, aSummary, aTaxRate, aTrade, anAccount, named}
 use Rattle.model.specs.Rows.{found, hasKey, is, there}
 
@@ -125,7 +126,7 @@ settled rs t = eqb (count (hasKey (aSettlement (t .id))) rs) (bit (eqb (t .statu
 
 abbrev pub settlementRight : List Row → Row → Bool
 settlementRight rs s =
-    eqb (s .flags) (found (aTrade (s .id)) rs .flags % 2) && eqb (count (hasKey (aCash (s .id))) rs) (s .flags)
+    eqb (s .flags) (bit (cash (found (aTrade (s .id)) rs .flags))) && eqb (count (hasKey (aCash (s .id))) rs) (s .flags)
 
 abbrev pub cashRight : List Row → Row → Bool
 cashRight rs c =

@@ -4,7 +4,7 @@ use mathlib.Core.Path.{_≡_, refl, sym, ap, _∙_}
 use mathlib.Core.Bool.{Bool, true, false, cond, not, _&&_, _||_}
 use mathlib.Core.List.{List, List·Memᴰ}
 use mathlib.Core.Logic.{_⊎_}
-use Prim.Native.Nat.{ℕ, _+_, _%_, _≤_, _<_}
+use Prim.Native.Nat.{ℕ, _+_, _≤_, _<_}
 use native.Mathlib.Omega.{arith}
 use lib.Dec.{eqb, leb, ltb}
 use lib.IntN.{ℤ, pos}
@@ -20,6 +20,7 @@ use Rattle.record.specs.declared.key.Key.{Key}
 use Rattle.record.specs.declared.row.Row.{Row}
 use Rattle.fields.specs.Meaning.{Fits, means-fits}
 use Rattle.fields.specs.Ranges.{taxPart}
+use Rattle.model.specs.Flags.{cash}
 use Rattle.model.specs.Names.{aCash, aHistory, aRequest, aSettlement, aSummary, aTrade, named}
 use Rattle.model.specs.Rows.{found, hasKey, is, there}
 use Rattle.model.specs.Sound
@@ -166,7 +167,7 @@ S9 rs =
     (r : Row) → List·Memᴰ r rs
     → ((r .kind ≡ kindTrade → count (hasKey (aSettlement (r .id))) rs ≡ bit (eqb (r .status) completed))
     × (r .kind ≡ kindSettlement
-    → (r .flags ≡ tradeOf rs (r .id) .flags % 2) × (count (hasKey (aCash (r .id))) rs ≡ r .flags)))
+    → (r .flags ≡ bit (cash (tradeOf rs (r .id) .flags))) × (count (hasKey (aCash (r .id))) rs ≡ r .flags)))
     × (r .kind ≡ kindCash
     → (found (aSettlement (r .id)) rs .flags ≡ 1) × (found (aSettlement (r .id)) rs .m1 ≡ r .m1))
 
@@ -180,7 +181,7 @@ means-s9 rs =
     (means-imp (means-eq (r .kind) kindTrade)
     (means-eq (count (hasKey (aSettlement (r .id))) rs) (bit (eqb (r .status) completed))))
     (means-imp (means-eq (r .kind) kindSettlement)
-    (means-and (means-eq (r .flags) (tradeOf rs (r .id) .flags % 2)) (means-eq (count (hasKey (aCash (r .id))) rs) (r .flags)))))
+    (means-and (means-eq (r .flags) (bit (cash (tradeOf rs (r .id) .flags)))) (means-eq (count (hasKey (aCash (r .id))) rs) (r .flags)))))
     (means-imp (means-eq (r .kind) kindCash)
     (means-and (means-eq (found (aSettlement (r .id)) rs .flags) 1) (means-eq (found (aSettlement (r .id)) rs .m1) (r .m1)))))
 

@@ -1,8 +1,6 @@
 -- "Status numbers, in order of checking." Each status has this paper's number, here and nowhere else. Assumes nothing.
 use Prim.Native.Nat.{ℕ}
 use lib.IntN.{ℤ, pos, negℤ}
-use mathlib.Core.Bool.{Bool, true, false}
-use mathlib.Core.List.{List, [], _∷_}
 use Rattle.model.specs.declared.Status.{Status}
 use Rattle.model.specs.declared.Status.the-variants.{Done, BadLength, BadBook, Unsound, BadInput, OverLimit, NoRoom, OrderNoAccount, OrderNoSecurity, OrderNoTax, OrderNoRate, OrderNoCharge, ResultNoTrade, ResultNotSubmitted, ResultNoTax, ResultNoRate, FeedNoSecurity, LookupNoTrade}
 
@@ -29,12 +27,3 @@ number ResultNoTax = minus 831
 number ResultNoRate = minus 841
 number FeedNoSecurity = minus 311
 number LookupNoTrade = minus 611
-
-abbrev otherwise : Bool → Status → Status → Status
-otherwise true s t = s
-otherwise false s t = t
-
--- the first test of a list that fails gives its status, and where none fails it is Done
-abbrev pub firstFailing : List (Bool × Status) → Status
-firstFailing [] = Done
-firstFailing (c ∷ cs) = otherwise (c .0) (firstFailing cs) (c .1)
