@@ -1,5 +1,0 @@
-pub mod Ranges
-pub mod Symbol
-pub mod Signed
-pub mod Rules
-pub mod Meaning

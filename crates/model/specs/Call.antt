@@ -13,7 +13,7 @@ use Rattle.laws.specs.Search.{every}
 use Rattle.record.specs.Bytes.{bytesOf}
 use Rattle.record.specs.Grid.{decode}
 use Rattle.record.specs.declared.row.Row.{Row}
-use Rattle.fields.specs.Rules.{feedInput, lookupInput, orderInput, resultInput}
+use Rattle.rules.specs.Rules.{feedInput, lookupInput, orderInput, resultInput}
 use Rattle.model.specs.declared.Status.{Status}
 use Rattle.model.specs.declared.Status.the-variants.{Done, BadLength, BadBook, Unsound, BadInput, OverLimit, NoRoom, OrderNoAccount, OrderNoSecurity, OrderNoTax, OrderNoRate, OrderNoCharge, ResultNoTrade, ResultNotSubmitted, ResultNoTax, ResultNoRate, FeedNoSecurity, LookupNoTrade}
 use Rattle.model.specs.Feed.{feed}

@@ -7,7 +7,7 @@ use mir.Syntax.{w32, w64}
 use mir.Val.{ofZ}
 use Rattle.record.specs.Bytes.{be, bytesOf}
 use Rattle.record.specs.declared.row.Row.{Row}
-use Rattle.fields.specs.Ranges.{values}
+use Rattle.rules.specs.Ranges.{values}
 use Rattle.model.specs.Rows.{nothing}
 
 pub record Put : Type 0 where

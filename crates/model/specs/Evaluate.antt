@@ -9,10 +9,10 @@ use Rattle.laws.specs.Chunk.{chunk, joined}
 use Rattle.record.specs.Grid.{decode, encode}
 use Rattle.record.specs.Key.{keyOf, sameKey}
 use Rattle.record.specs.declared.row.Row.{Row}
-use Rattle.fields.specs.Ranges
-use Rattle.fields.specs.Signed.{near}
-use Rattle.fields.specs.Symbol.{symbolOk}
-use Rattle.fields.specs.Rules.{free, broker, customer, taxRate, customerRate, account, security, band, charge, trade, request, tradeHistory, lot, summary, lotHistory, settlement, cash, orderInput, resultInput, feedInput, lookupInput, fits}
+use Rattle.rules.specs.Ranges
+use Rattle.rules.specs.Signed.{near}
+use Rattle.rules.specs.Symbol.{symbolOk}
+use Rattle.rules.specs.Rules.{free, broker, customer, taxRate, customerRate, account, security, band, charge, trade, request, tradeHistory, lot, summary, lotHistory, settlement, cash, orderInput, resultInput, feedInput, lookupInput, fits}
 use Rattle.model.specs.Band.{bandRate}
 use Rattle.model.specs.Call.{Reply, feedCall, lookupCall, orderCall, refusalArea, replied, resultCall, shell}
 use Rattle.model.specs.Feed.{applied, feed, submits, swept}

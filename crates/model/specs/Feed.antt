@@ -12,7 +12,7 @@ use Rattle.laws.specs.Change.{put}
 use Rattle.laws.specs.Sort.{sort}
 use Rattle.record.specs.Codes.{kindFeed, kindFree, kindRequest, kindTradeHistory, pending, submitted, tlb, tls, tsl}
 use Rattle.record.specs.declared.row.Row.{Row}
-use Rattle.fields.specs.Ranges.{id, kind, m1, n1, n2, status, volume, when}
+use Rattle.rules.specs.Ranges.{id, kind, m1, n1, n2, status, volume, when}
 use Rattle.model.specs.declared.Status.the-variants.{FeedNoSecurity}
 use Rattle.model.specs.Edit.{_≔_, changed, new}
 use Rattle.model.specs.Names.{aSecurity, aTrade}

@@ -7,7 +7,7 @@ use native.Mathlib.Omega.{arith}
 use lib.Dec.{eqb, leb, ltb}
 use lib.IntN.{ℤ, pos, negℤ, _-ℤ_, +ℤ-idr}
 use Rattle.record.specs.Codes.{tlb, tmb}
-use Rattle.fields.specs.Ranges.{commissionPart, taxPart}
+use Rattle.rules.specs.Ranges.{commissionPart, taxPart}
 
 -- a / b to the nearest whole number, halves up
 abbrev pub rounded : ℕ → ℕ → ℕ

@@ -7,7 +7,7 @@ use lib.Dec.{leb}
 use Rattle.laws.specs.Search.{largest}
 use Rattle.record.specs.Codes.{kindFree, kindOrder, kindRequest, kindTrade, kindTradeHistory, pending, submitted, tms}
 use Rattle.record.specs.declared.row.Row.{Row}
-use Rattle.fields.specs.Ranges.{flags, form, id, kind, m1, m2, n1, n2, n3, n4, party, status, symbol, tradeNumber, when}
+use Rattle.rules.specs.Ranges.{flags, form, id, kind, m1, m2, n1, n2, n3, n4, party, status, symbol, tradeNumber, when}
 use Rattle.model.specs.declared.Status.the-variants.{OrderNoAccount, OrderNoCharge, OrderNoRate, OrderNoSecurity, OrderNoTax}
 use Rattle.model.specs.Band.{bandRate}
 use Rattle.model.specs.Edit.{_≔_, inSymbol, new}

@@ -9,7 +9,7 @@ use Rattle.laws.specs.Search.{keep}
 use Rattle.record.specs.Codes.{kindBand, kindCharge}
 use Rattle.record.specs.Grid.{encode}
 use Rattle.record.specs.declared.row.Row.{Row}
-use Rattle.fields.specs.Ranges.{id, symbol}
+use Rattle.rules.specs.Ranges.{id, symbol}
 use Rattle.model.specs.Call.{feedCall, lookupCall, orderCall, resultCall}
 use Rattle.model.specs.Edit.{_≔_, changed}
 use Rattle.model.specs.Evaluate.{feedOpened, lookupOpened, orderOpened, resultOpened}

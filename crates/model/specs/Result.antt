@@ -9,7 +9,7 @@ use mir.Val.{toZ}
 use Rattle.laws.specs.Search.{keep}
 use Rattle.record.specs.Codes.{completed, kindCash, kindFree, kindLot, kindLotHistory, kindResult, kindSettlement, kindSummary, kindTradeHistory, submitted}
 use Rattle.record.specs.declared.row.Row.{Row}
-use Rattle.fields.specs.Ranges.{brokerTrades, commissionTotal, flags, id, kind, m1, m2, moneyMost, n1, n2, n3, party, status, symbol, when}
+use Rattle.rules.specs.Ranges.{brokerTrades, commissionTotal, flags, id, kind, m1, m2, moneyMost, n1, n2, n3, party, status, symbol, when}
 use Rattle.model.specs.declared.Status.the-variants.{ResultNoRate, ResultNoTax, ResultNoTrade, ResultNotSubmitted}
 use Rattle.model.specs.Edit.{_≔_, bits32, bits64, changed, inSymbol, new}
 use Rattle.model.specs.Flags.{cash}

@@ -8,7 +8,7 @@ use lib.ListN.{replicate}
 use Rattle.laws.specs.Search.{keep}
 use Rattle.record.specs.Codes.{completed, kindAccount, kindBand, kindBroker, kindCharge, kindCustomer, kindCustomerRate, kindFeed, kindLot, kindLookup, kindOrder, kindRequest, kindResult, kindSecurity, kindSettlement, kindSummary, kindTaxRate, kindTrade, kindTradeHistory, pending, submitted, tlb, tmb, tms}
 use Rattle.record.specs.declared.row.Row.{Row}
-use Rattle.fields.specs.Ranges.{flags, form, id, kind, m1, m2, n1, n2, n3, n4, party, status, symbol, tradeNumber, volume, brokerTrades, when}
+use Rattle.rules.specs.Ranges.{flags, form, id, kind, m1, m2, n1, n2, n3, n4, party, status, symbol, tradeNumber, volume, brokerTrades, when}
 use Rattle.model.specs.Edit.{_≔_, bits64, changed, new}
 use Rattle.model.specs.Money.{buys}
 use Rattle.model.specs.Result.{settlementSeconds}

@@ -12,8 +12,8 @@ use Rattle.laws.specs.Search.{bit, every, count, total, sumZ}
 use Rattle.record.specs.Codes.{completed, kindBand, kindCash, kindCustomer, kindCustomerRate, kindFree, kindLot, kindLotHistory, kindRequest, kindSettlement, kindSummary, kindTrade, kindTradeHistory, pending, tlb}
 use Rattle.record.specs.Key.{keyOf}
 use Rattle.record.specs.declared.row.Row.{Row}
-use Rattle.fields.specs.Ranges.{taxPart}
-use Rattle.fields.specs.Rules.{fits}
+use Rattle.rules.specs.Ranges.{taxPart}
+use Rattle.rules.specs.Rules.{fits}
 use Rattle.model.specs.Flags.{cash}
 use Rattle.model.specs.Names.{aCash, aHistory, aRequest, aSettlement, aSummary, aTaxRate, aTrade, anAccount, named}
 use Rattle.model.specs.Rows.{found, hasKey, is, there}

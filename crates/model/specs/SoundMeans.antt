@@ -18,8 +18,8 @@ use Rattle.record.specs.Key.{keyOf}
 use Rattle.record.specs.Signed.{eq-parts, le-parts, parts-le}
 use Rattle.record.specs.declared.key.Key.{Key}
 use Rattle.record.specs.declared.row.Row.{Row}
-use Rattle.fields.specs.Meaning.{Fits, means-fits}
-use Rattle.fields.specs.Ranges.{taxPart}
+use Rattle.rules.specs.Meaning.{Fits, means-fits}
+use Rattle.rules.specs.Ranges.{taxPart}
 use Rattle.model.specs.Flags.{cash}
 use Rattle.model.specs.Names.{aCash, aHistory, aRequest, aSettlement, aSummary, aTrade, named}
 use Rattle.model.specs.Rows.{found, hasKey, is, there}

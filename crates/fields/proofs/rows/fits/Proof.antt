@@ -1,7 +1,0 @@
--- The rule of the row that is read. Assumes nothing.
-use borrow.Author.Needs.{needs}
-use Rattle.fields.proofs.rows.fits.Statement.{statement}
-use Rattle.fields.proofs.rows.fits.Tie as tie
-
-pub fits-spec : {M : Type 1} → statement M
-fits-spec = tie.close (tie.spec (λ c κs. search needs) (λ c κs. search needs) (λ c. cc))

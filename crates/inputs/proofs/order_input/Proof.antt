@@ -1,0 +1,24 @@
+-- The limits are the model's by computation, and each further rule is its own test. Assumes nothing.
+use Rattle.rules.specs.Ranges.{limited}
+use Rattle.rules.specs.Rules.{orderInput, orderInputLimits}
+use borrow.Author.Needs.{needs}
+use mathlib.Core.Path.{_≡_}
+use Rattle.inputs.proofs.order_input.Statement.{statement}
+use Rattle.inputs.proofs.order_input.Tie as tie
+
+returns : tie.Need-returns
+unfolding orderInput
+returns c =
+    let d = c .before .before .before .before in
+    let start = c .before .before .before .before .before .before .before .before .before .before .before .before in
+    let e : d .in-limits .result ≡ limited (start .args .r) orderInputLimits = d .in-limits .ensures in
+    cc
+
+pub order-input-spec : {M : Type 1} → statement M
+order-input-spec =
+    tie.close
+    (tie.spec
+    (λ c κs. search needs)
+    (λ c κs. search needs)
+    (λ c κs. search needs)
+    returns)

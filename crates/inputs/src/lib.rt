@@ -1,0 +1,68 @@
+// The rules of the four kinds of input, decided on the record's own bytes: what breaks one is -103.
+ghost use mathlib.Core.Path.{_≡_};
+ghost use lib.ListN.{length};
+ghost use Rattle.record.specs.Grid.{decode};
+ghost use Rattle.rules.specs.Rules.{feedInput, lookupInput, orderInput, resultInput};
+use kinds::inputs::FeedInput;
+use kinds::inputs::LookupInput;
+use kinds::inputs::OrderInput;
+use kinds::inputs::ResultInput;
+use record::codes::TradeType;
+use record::row::Row;
+use rules::limited::alike;
+use rules::limited::in_limits;
+use rules::symbol::symbol_ok;
+
+fn order_input(r: Row) -> bool
+    ensures { λ b. ⌜ b ≡ orderInput r ⌝ }
+{
+    in_limits(r, OrderInput::LIMITS)
+        & alike(r.n2 == 0, r.form <= TradeType::TMS)
+        & symbol_ok(r.symbol)
+}
+
+fn result_input(r: Row) -> bool
+    ensures { λ b. ⌜ b ≡ resultInput r ⌝ }
+{
+    in_limits(r, ResultInput::LIMITS)
+}
+
+fn feed_input(r: Row) -> bool
+    ensures { λ b. ⌜ b ≡ feedInput r ⌝ }
+{
+    in_limits(r, FeedInput::LIMITS) & symbol_ok(r.symbol)
+}
+
+fn lookup_input(r: Row) -> bool
+    ensures { λ b. ⌜ b ≡ lookupInput r ⌝ }
+{
+    in_limits(r, LookupInput::LIMITS)
+}
+
+pub fn is_order(part: &[u8]) -> bool
+    requires { ⌜ length (now part) ≡ 64 ⌝ }
+    ensures { λ b. ⌜ b ≡ orderInput (decode (now (part .entry))) ⌝ }
+{
+    order_input(Row::read(part))
+}
+
+pub fn is_result(part: &[u8]) -> bool
+    requires { ⌜ length (now part) ≡ 64 ⌝ }
+    ensures { λ b. ⌜ b ≡ resultInput (decode (now (part .entry))) ⌝ }
+{
+    result_input(Row::read(part))
+}
+
+pub fn is_feed(part: &[u8]) -> bool
+    requires { ⌜ length (now part) ≡ 64 ⌝ }
+    ensures { λ b. ⌜ b ≡ feedInput (decode (now (part .entry))) ⌝ }
+{
+    feed_input(Row::read(part))
+}
+
+pub fn is_lookup(part: &[u8]) -> bool
+    requires { ⌜ length (now part) ≡ 64 ⌝ }
+    ensures { λ b. ⌜ b ≡ lookupInput (decode (now (part .entry))) ⌝ }
+{
+    lookup_input(Row::read(part))
+}
