@@ -1,0 +1,30 @@
+-- The invariant: the record keeps its length. The measure is the number of bytes left.
+-- Assumes nothing.
+use Prim.Native.Nat.{_-_, _≤_}
+use borrow.Author.Needs.{needs}
+use lib.ListN.{length}
+use mathlib.Core.Path.{_≡_}
+use Rattle.cases.proofs.fill.put_symbol.Statement.{statement}
+use Rattle.cases.proofs.fill.put_symbol.Tie as tie
+
+abbrev Inv-loop : tie.InvT-loop
+Inv-loop bytes₀ text i₀ bytes i = (i ≤ 8) × (length bytes ≡ length bytes₀)
+
+abbrev μ-loop : tie.MeasureT-loop
+μ-loop bytes₀ text i₀ bytes i = 8 - i
+
+pub put-symbol-spec : {M : Type 1} → statement M
+put-symbol-spec =
+    tie.close
+    (tie.spec
+    Inv-loop
+    μ-loop
+    (λ c. search needs)
+    (λ c. search needs)
+    (λ c κs. search needs)
+    (λ c. search needs)
+    (λ c. search needs)
+    (λ c. search needs)
+    (λ c. search needs)
+    (λ c. search needs)
+    (λ c. search needs))
