@@ -1,9 +1,10 @@
-// S1: every record is free or fits the grid. The rule of each of the sixteen kinds of row, and of a free record, decided on the
-// record's own bytes.
+// S1: every record is free or fits the grid. The rule of each of the sixteen kinds of row, and of a free record,
+// decided on the record's own bytes.
 ghost use mathlib.Core.Path.{_≡_};
 ghost use lib.ListN.{length};
 ghost use Rattle.record.specs.Grid.{decode};
-ghost use Rattle.rules.specs.Rules.{account, band, broker, cash, charge, customer, customerRate, lot, lotHistory, request, security, settlement, summary, taxRate, trade, tradeHistory, free, fits};
+ghost use Rattle.rules.specs.Rules.{account, band, broker, cash, charge, customer, customerRate, lot, lotHistory};
+ghost use Rattle.rules.specs.Rules.{request, security, settlement, summary, taxRate, trade, tradeHistory, free, fits};
 use kinds::limits::Limits;
 use kinds::limits::Ranges;
 use kinds::rows::Account;

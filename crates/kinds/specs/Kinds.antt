@@ -1,7 +1,6 @@
--- Each kind of row and of input as the values that its fields mean: "Balances, lots and settlements are i64, .. read from and
--- written to two's complement bytes"; counts of shares and of cents that are never below zero are read as they stand.
--- Assumes nothing.
-use Prim.Native.Nat.{ℕ}
+-- Each kind of row and of input as the values that its fields mean: "Balances, lots and settlements are i64, .. read
+-- from and written to two's complement bytes"; counts of shares and of cents that are never below zero are read as
+-- they stand. Assumes nothing.
 use lib.IntN.{pos}
 use mir.Syntax.{w32, w64}
 use mir.Val.{toZ}

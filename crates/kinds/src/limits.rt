@@ -1,5 +1,5 @@
-// The limits of a row's fields: a range for each, unused fields at zero. Every number of the rules stands here or with its
-// kind, once.
+// The limits of a row's fields: a range for each, unused fields at zero. Every number of the rules stands here or
+// with its kind, once.
 
 // The lowest number and the highest.
 pub struct R8(pub u8, pub u8);

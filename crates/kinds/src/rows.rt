@@ -2,7 +2,9 @@
 ghost use mathlib.Core.Path.{_≡_};
 ghost use lib.ListN.{length};
 ghost use Rattle.record.specs.Grid.{decode};
-ghost use Rattle.kinds.specs.Kinds.{brokerOf, customerOf, taxRateOf, customerRateOf, accountOf, securityOf, bandOf, chargeOf, tradeOf, requestOf, tradeHistoryOf, lotOf, summaryOf, lotHistoryOf, settlementOf, cashOf};
+ghost use Rattle.kinds.specs.Kinds.{brokerOf, customerOf, taxRateOf, customerRateOf, accountOf, securityOf};
+ghost use Rattle.kinds.specs.Kinds.{bandOf, chargeOf, tradeOf, requestOf, tradeHistoryOf, lotOf, summaryOf};
+ghost use Rattle.kinds.specs.Kinds.{lotHistoryOf, settlementOf, cashOf};
 use crate::limits::Limits;
 use crate::limits::R8;
 use crate::limits::R32;

@@ -1,5 +1,5 @@
-// The meta-types of clause 2.2.2, kept apart: a count of shares is never handed over as a count of cents, nor a trade number
-// as an account.
+// The meta-types of clause 2.2.2, kept apart: a count of shares is never handed over as a count of cents, nor a trade
+// number as an account.
 ghost use mathlib.Core.Path.{_≡_};
 ghost use Prim.Native.Nat.{_+_, _≤_};
 ghost use lib.ListN.{length};

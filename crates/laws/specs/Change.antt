@@ -1,5 +1,5 @@
--- Rows changed in their place, rows freed, and rows put into the free places, lowest first. A row's place is where a row equal to
--- it stands first. Assumes nothing.
+-- Rows changed in their place, rows freed, and rows put into the free places, lowest first. A row's place is where a
+-- row equal to it stands first. Assumes nothing.
 use mathlib.Core.Bool.{Bool, cond}
 use mathlib.Core.List.{List, [], _∷_, _++_, map}
 

@@ -1,6 +1,6 @@
--- Numbers by their digits, each in a base of its own: the order and the equality of the numbers are those of the digits, the
--- highest first. Assumes nothing.
-use mathlib.Core.Path.{_≡_, refl, sym, ap, subst, _∙_}
+-- Numbers by their digits, each in a base of its own: the order and the equality of the numbers are those of the
+-- digits, the highest first. Assumes nothing.
+use mathlib.Core.Path.{_≡_, refl, sym, ap, subst}
 use mathlib.Core.Bool.{Bool, true, false, _&&_, _||_}
 use mathlib.Core.List.{List, [], _∷_}
 use Prim.Native.Nat.{ℕ, zero, suc, _+_, _*_, _≤_, _<_}
@@ -85,8 +85,9 @@ same-number s h h′ [] b e = e
 same-number s h h′ (d ∷ ds) b e =
     let x = d .mine in
     let y = d .yours in
-    let one : (s && eqb x y) ≡ eqb (h * d .base + x) (h′ * d .base + y) = rw e (pair-same (d .base) h x h′ y (b .0) (b .1)) in
-    same-number (s && eqb x y) (h * d .base + x) (h′ * d .base + y) ds (b .2) one
+    let m = d .base in
+    let one : (s && eqb x y) ≡ eqb (h * m + x) (h′ * m + y) = rw e (pair-same m h x h′ y (b .0) (b .1)) in
+    same-number (s && eqb x y) (h * m + x) (h′ * m + y) ds (b .2) one
 
 pub less-number : (l s : Bool) (h h′ : ℕ) (ds : List Digit) → InBase ds → l ≡ ltb h h′ → s ≡ eqb h h′
     → less l s ds ≡ ltb (mine h ds) (yours h′ ds)

@@ -1,9 +1,8 @@
 -- Searches, tests, counts and sums over a list: each rule of the book is one of these. Assumes nothing.
-use mathlib.Core.Path.{_≡_, refl, sym, ap, subst, _∙_}
+use mathlib.Core.Path.{_≡_, refl, ap, _∙_}
 use mathlib.Core.Bool.{Bool, true, false, cond, _&&_}
 use mathlib.Core.List.{List, [], _∷_, List·Memᴰ, List·Memᴰ·head, List·Memᴰ·tail, List·Memᴰ·not-nil}
-use Prim.Native.Nat.{ℕ, zero, suc, _+_, _≤_, max}
-use native.Mathlib.Omega.{arith}
+use Prim.Native.Nat.{ℕ, _+_, max}
 use lib.IntN.{ℤ, pos, _+ℤ_}
 use Rattle.laws.specs.Tests.{Means, and-left, and-right, and-both}
 

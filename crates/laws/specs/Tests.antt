@@ -1,6 +1,6 @@
--- Truth values, and the propositions that they mean. A test b means P where b is true exactly when P holds: a rule is computed
--- as a test and used as a proposition. Assumes nothing.
-use mathlib.Core.Path.{_≡_, refl, sym, _∙_}
+-- Truth values, and the propositions that they mean. A test b means P where b is true exactly when P holds: a rule is
+-- computed as a test and used as a proposition. Assumes nothing.
+use mathlib.Core.Path.{_≡_, refl}
 use mathlib.Core.Bool.{Bool, true, false, cond, not, _&&_, _||_, false≢true}
 use mathlib.Core.Logic.{_⊎_, inl, inr, ⊎-elim}
 use Prim.Native.Nat.{ℕ, _≤_}

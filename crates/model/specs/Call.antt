@@ -1,8 +1,9 @@
--- The four calls on byte areas: the status, every byte of the answer and every byte of the book. "A refusal leaves the book as found; all
--- answer bytes are zero but the status, signed, in bytes 60-63 (-100 excepted)." Assumes nothing.
+-- The four calls on byte areas: the status, every byte of the answer and every byte of the book. "A refusal leaves
+-- the book as found; all answer bytes are zero but the status, signed, in bytes 60-63 (-100 excepted)." Assumes
+-- nothing.
 use mathlib.Core.Path.{_≡_, sym, _∙_}
 use mathlib.Core.Bool.{Bool, true, false, _&&_}
-use mathlib.Core.List.{List, [], _∷_, _++_}
+use mathlib.Core.List.{List, _++_}
 use Prim.Native.Nat.{ℕ, _*_, _-_}
 use lib.Dec.{eqb}
 use lib.IntN.{ℤ}
@@ -15,7 +16,11 @@ use Rattle.record.specs.Grid.{decode}
 use Rattle.record.specs.declared.row.Row.{Row}
 use Rattle.rules.specs.Rules.{feedInput, lookupInput, orderInput, resultInput}
 use Rattle.model.specs.declared.Status.{Status}
-use Rattle.model.specs.declared.Status.the-variants.{Done, BadLength, BadBook, Unsound, BadInput, OverLimit, NoRoom, OrderNoAccount, OrderNoSecurity, OrderNoTax, OrderNoRate, OrderNoCharge, ResultNoTrade, ResultNotSubmitted, ResultNoTax, ResultNoRate, FeedNoSecurity, LookupNoTrade}
+use Rattle.model.specs.declared.Status.the-variants.{Done, BadLength, BadBook, Unsound, BadInput, OverLimit}
+use Rattle.model.specs.declared.Status.the-variants.{NoRoom, OrderNoAccount, OrderNoSecurity, OrderNoTax}
+use Rattle.model.specs.declared.Status.the-variants.{OrderNoRate, OrderNoCharge, ResultNoTrade}
+use Rattle.model.specs.declared.Status.the-variants.{ResultNotSubmitted, ResultNoTax, ResultNoRate}
+use Rattle.model.specs.declared.Status.the-variants.{FeedNoSecurity, LookupNoTrade}
 use Rattle.model.specs.Feed.{feed}
 use Rattle.model.specs.Lookup.{lookup}
 use Rattle.model.specs.Order.{order}
@@ -70,7 +75,8 @@ abbrev choose : Bool → Reply → Reply → Reply
 choose true a b = a
 choose false a b = b
 
--- the shell of every call: the lengths, the book's length, its soundness, the input's fields; then the call's own decision
+-- the shell of every call: the lengths, the book's length, its soundness, the input's fields; then the call's own
+-- decision
 unfoldable pub shell : Bool → Bool → (List Row → Outcome) → List ℕ → List ℕ → Reply
 shell lengths inputs decide b answer =
     let rs = rows b in
@@ -100,7 +106,8 @@ resultCall b input answer =
 unfoldable pub feedCall : List ℕ → List ℕ → List ℕ → Reply
 feedCall b input answer =
     let is = rows input in
-    shell (wholeRecords mostInputs (length input) && eqb (length answer) recordSize) (every feedInput is) (λ rs. feed rs is) b
+    shell (wholeRecords mostInputs (length input)
+    && eqb (length answer) recordSize) (every feedInput is) (λ rs. feed rs is) b
     answer
 
 unfoldable pub lookupCall : List ℕ → List ℕ → List ℕ → Reply

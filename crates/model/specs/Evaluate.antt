@@ -1,4 +1,5 @@
--- The calls, opened: to unfold one of these is to unfold all that the rules are made of, so that a closed case computes. Assumes nothing.
+-- The calls, opened: to unfold one of these is to unfold all that the rules are made of, so that a closed case
+-- computes. Assumes nothing.
 use mathlib.Core.Bool.{Bool}
 use mathlib.Core.List.{List}
 use Prim.Native.Nat.{ℕ}
@@ -12,7 +13,9 @@ use Rattle.record.specs.declared.row.Row.{Row}
 use Rattle.rules.specs.Ranges
 use Rattle.rules.specs.Signed.{near}
 use Rattle.rules.specs.Symbol.{symbolOk}
-use Rattle.rules.specs.Rules.{free, broker, customer, taxRate, customerRate, account, security, band, charge, trade, request, tradeHistory, lot, summary, lotHistory, settlement, cash, orderInput, resultInput, feedInput, lookupInput, fits}
+use Rattle.rules.specs.Rules.{free, broker, customer, taxRate, customerRate, account, security, band, charge, trade}
+use Rattle.rules.specs.Rules.{request, tradeHistory, lot, summary, lotHistory, settlement, cash, orderInput}
+use Rattle.rules.specs.Rules.{resultInput, feedInput, lookupInput, fits}
 use Rattle.model.specs.Band.{bandRate}
 use Rattle.model.specs.Call.{Reply, feedCall, lookupCall, orderCall, refusalArea, replied, resultCall, shell}
 use Rattle.model.specs.Feed.{applied, feed, submits, swept}
@@ -27,26 +30,64 @@ use Rattle.model.specs.Rows.{bytes, found, hasKey, rows, sameRow, there,
 use Rattle.model.specs.Sound.{ratesOf, s1, s2, s3, s4, s5, s6, s7, s8, s9, s10, sound}
 use Rattle.model.specs.Tally.{tallied, tally}
 
+-- ---- bundles: to unfold one is to unfold what its line names
+unfoldable listsOpened : ℕ
+unfolding the every keep total count sumZ largest run insert sort put puts fill written chunk joined
+listsOpened = 0
+
+unfoldable gridOpened : ℕ
+unfolding decode encode keyOf sameKey rows bytes wholeRecords sameRow hasKey found there named
+gridOpened = 0
+
+unfoldable fieldsOpened : ℕ
+unfolding Ranges.limited near symbolOk
+fieldsOpened = 0
+
+unfoldable kindsOpened : ℕ
+unfolding free broker customer taxRate customerRate account security band charge trade request tradeHistory fits
+kindsOpened = 0
+
+unfoldable moreKindsOpened : ℕ
+unfolding lot summary lotHistory settlement cash orderInput resultInput feedInput lookupInput
+moreKindsOpened = 0
+
+unfoldable rulesOpened : ℕ
+unfolding listsOpened gridOpened fieldsOpened kindsOpened moreKindsOpened ratesOf s1 s2 s3 s4 s5 s6 s7 s8 s9 s10 sound
+rulesOpened = 0
+
+unfoldable shellOpened : ℕ
+unfolding rulesOpened shell replied refusalArea room limited
+shellOpened = 0
+
+unfoldable moneyOpened : ℕ
+unfolding commissionOf settlementOf taxOf taxable untaxed
+moneyOpened = 0
+
+unfoldable postingOpened : ℕ
+unfolding shellOpened moneyOpened bandRate closings lotsFor walk checked finished posted
+postingOpened = 0
+
+-- ---- the calls
 unfoldable pub soundOpened : List Row → Bool
-unfolding the every keep total count sumZ keyOf sameKey Ranges.limited near symbolOk free broker customer taxRate customerRate account security band charge trade request tradeHistory lot summary lotHistory settlement cash fits found hasKey there named ratesOf s1 s2 s3 s4 s5 s6 s7 s8 s9 s10 sound chunk decode rows joined encode bytes wholeRecords sameRow
+unfolding rulesOpened
 soundOpened rs = sound rs
 
 unfoldable pub orderOpened : List ℕ → List ℕ → List ℕ → Reply
-unfolding the every keep total count sumZ keyOf sameKey Ranges.limited near symbolOk free broker customer taxRate customerRate account security band charge trade request tradeHistory lot summary lotHistory settlement cash fits found hasKey there named ratesOf s1 s2 s3 s4 s5 s6 s7 s8 s9 s10 sound chunk decode rows joined encode bytes wholeRecords sameRow shell replied refusalArea room limited largest run insert sort put puts fill written orderInput bandRate closings lotsFor walk commissionOf taxOf taxable untaxed checked finished posted order.nextNumber order.view order.posting order.plan order.finish order.order orderCall
+unfolding postingOpened order.nextNumber order.view order.posting order.plan order.finish order.order orderCall
 orderOpened b i a = orderCall b i a
 
 unfoldable pub resultOpened : List ℕ → List ℕ → List ℕ → Reply
-unfolding the every keep total count sumZ keyOf sameKey Ranges.limited near symbolOk free broker customer taxRate customerRate account security band charge trade request tradeHistory lot summary lotHistory settlement cash fits found hasKey there named ratesOf s1 s2 s3 s4 s5 s6 s7 s8 s9 s10 sound chunk decode rows joined encode bytes wholeRecords sameRow shell replied refusalArea room limited run insert sort put puts fill written resultInput bandRate closings lotsFor walk commissionOf settlementOf taxOf taxable untaxed checked finished posted result.view result.figures result.posting result.plan result.finish result.result resultCall
+unfolding postingOpened result.view result.figures result.posting result.plan result.finish result.result resultCall
 resultOpened b i a = resultCall b i a
 
 unfoldable pub feedOpened : List ℕ → List ℕ → List ℕ → Reply
-unfolding the every keep total count sumZ keyOf sameKey Ranges.limited near symbolOk free broker customer taxRate customerRate account security band charge trade request tradeHistory lot summary lotHistory settlement cash fits found hasKey there named ratesOf s1 s2 s3 s4 s5 s6 s7 s8 s9 s10 sound chunk decode rows joined encode bytes wholeRecords sameRow shell replied refusalArea room limited run insert sort put feedInput applied feed submits swept feedCall
+unfolding shellOpened applied feed submits swept feedCall
 feedOpened b i a = feedCall b i a
 
 unfoldable pub lookupOpened : List ℕ → List ℕ → List ℕ → Reply
-unfolding the every keep total count sumZ keyOf sameKey Ranges.limited near symbolOk free broker customer taxRate customerRate account security band charge trade request tradeHistory lot summary lotHistory settlement cash fits found hasKey there named ratesOf s1 s2 s3 s4 s5 s6 s7 s8 s9 s10 sound chunk decode rows joined encode bytes wholeRecords sameRow shell replied refusalArea room limited lookupInput looked lookup lookupCall
+unfolding shellOpened looked lookup lookupCall
 lookupOpened b i a = lookupCall b i a
 
 unfoldable pub tallyOpened : List Row → List (List ℕ)
-unfolding count total tallied tally
+unfolding listsOpened tallied tally
 tallyOpened rs = tally rs

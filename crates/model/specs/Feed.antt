@@ -1,8 +1,9 @@
--- Feed: clause 3.3.3. "Entries apply in turn, as one transaction. Each sets last price and time and adds its shares to the volume; then
--- every request on that symbol with (TLB or TSL and bid ≥ price) or (TLS and bid ≤ price), by rising trade number, leaves the book,
--- its trade takes status 2 and the entry's time, and a history row is added." A request waits while its trade is pending; those
--- that no longer wait leave at the end, so that no place that the call frees serves the call. Assumes nothing.
-use mathlib.Core.Bool.{Bool, true, false, cond, not, _&&_, _||_}
+-- Feed: clause 3.3.3. "Entries apply in turn, as one transaction. Each sets last price and time and adds its shares
+-- to the volume; then every request on that symbol with (TLB or TSL and bid ≥ price) or (TLS and bid ≤ price), by
+-- rising trade number, leaves the book, its trade takes status 2 and the entry's time, and a history row is added." A
+-- request waits while its trade is pending; those that no longer wait leave at the end, so that no place that the
+-- call frees serves the call. Assumes nothing.
+use mathlib.Core.Bool.{Bool, cond, not, _&&_, _||_}
 use mathlib.Core.List.{List, [], _∷_, map}
 use Prim.Native.Nat.{ℕ, _+_}
 use lib.Dec.{eqb, leb}
@@ -10,7 +11,7 @@ use lib.ListN.{length}
 use Rattle.laws.specs.Search.{every, keep, run}
 use Rattle.laws.specs.Change.{put}
 use Rattle.laws.specs.Sort.{sort}
-use Rattle.record.specs.Codes.{kindFeed, kindFree, kindRequest, kindTradeHistory, pending, submitted, tlb, tls, tsl}
+use Rattle.record.specs.Codes.{kindFeed, kindRequest, kindTradeHistory, pending, submitted, tlb, tls, tsl}
 use Rattle.record.specs.declared.row.Row.{Row}
 use Rattle.rules.specs.Ranges.{id, kind, m1, n1, n2, status, volume, when}
 use Rattle.model.specs.declared.Status.the-variants.{FeedNoSecurity}

@@ -1,5 +1,5 @@
--- "Figures to check against": one table of cases, and one claim about the rules, which the checker computes. Each case goes through the
--- call on its byte areas, so its book is found sound on the way. Assumes nothing.
+-- "Figures to check against": one table of cases, and one claim about the rules, which the checker computes. Each
+-- case goes through the call on its byte areas, so its book is found sound on the way. Assumes nothing.
 use mathlib.Core.Path.{_≡_, refl}
 use mathlib.Core.List.{List, [], _∷_, map}
 use Prim.Native.Nat.{ℕ}
@@ -16,7 +16,8 @@ use Rattle.model.specs.Call.{Reply, feedCall, orderCall, resultCall}
 use Rattle.model.specs.Evaluate.{feedOpened, orderOpened, resultOpened, tallyOpened}
 use Rattle.model.specs.Names.{aLot, aSummary, aTrade}
 use Rattle.model.specs.Rows.{bytes, found, is, rows}
-use Rattle.model.specs.Sample.{abc, buying, eight, entryAt, gaining, lastAt, orderFor, resultAt, selling, seven, waiting}
+use Rattle.model.specs.Sample.{abc, buying, eight, entryAt, gaining, lastAt, orderFor, resultAt, selling, seven}
+use Rattle.model.specs.Sample.{waiting}
 use Rattle.model.specs.Status.{number}
 use Rattle.model.specs.Tally.{tally}
 
@@ -29,8 +30,8 @@ pub data Case : Type 0 where
 abbrev area : List ℕ
 area = replicate 64 7
 
--- status, tax, commission, settlement, balance, the shares of lots 10, 11 and 12, and the summary; then how many lots and summaries
--- there are
+-- status, tax, commission, settlement, balance, the shares of lots 10, 11 and 12, and the summary; then how many lots
+-- and summaries there are
 abbrev afterResult : Reply → List ℤ
 afterResult r =
     let rs = rows (r .book) in
@@ -51,7 +52,8 @@ afterResult r =
 abbrev afterFeed : Reply → List ℤ
 afterFeed r =
     let rs = rows (r .book) in
-    number (r .status) ∷ pos (le 4 (r .answer) 28) ∷ pos (found (aTrade 20) rs .status) ∷ pos (count (is kindRequest) rs) ∷ []
+    number (r .status) ∷ pos (le 4 (r .answer) 28) ∷ pos (found (aTrade 20) rs .status)
+    ∷ pos (count (is kindRequest) rs) ∷ []
 
 -- status, and the commission of the trade that was added
 abbrev afterOrder : Reply → List ℤ
@@ -78,15 +80,19 @@ minus n = negℤ (pos n)
 abbrev pub table : List Figure
 table =
     (aResult (selling 1 120 6) (resultAt 3_000) gives
-    (pos 0 ∷ pos 22_000 ∷ pos 1_800 ∷ pos 335_700 ∷ pos 1_335_700 ∷ pos 0 ∷ pos 30 ∷ pos 0 ∷ pos 30 ∷ pos 1 ∷ pos 1 ∷ []))
+    (pos 0 ∷ pos 22_000 ∷ pos 1_800 ∷ pos 335_700 ∷ pos 1_335_700 ∷ pos 0 ∷ pos 30 ∷ pos 0 ∷ pos 30 ∷ pos 1 ∷ pos 1
+    ∷ []))
     ∷ (aResult (selling 3 120 6) (resultAt 3_000) gives
-    (pos 0 ∷ pos 19_000 ∷ pos 1_800 ∷ pos 338_700 ∷ pos 1_338_700 ∷ pos 30 ∷ pos 0 ∷ pos 0 ∷ pos 30 ∷ pos 1 ∷ pos 1 ∷ []))
+    (pos 0 ∷ pos 19_000 ∷ pos 1_800 ∷ pos 338_700 ∷ pos 1_338_700 ∷ pos 30 ∷ pos 0 ∷ pos 0 ∷ pos 30 ∷ pos 1 ∷ pos 1
+    ∷ []))
     ∷ (aResult (selling 1 150 6) (resultAt 3_000) gives
     (pos 0 ∷ pos 25_000 ∷ pos 2_250 ∷ pos 422_250 ∷ pos 1_422_250 ∷ pos 0 ∷ pos 0 ∷ pos 0 ∷ pos 0 ∷ pos 0 ∷ pos 0 ∷ []))
     ∷ (aResult (selling 1 200 8) (resultAt 3_000) gives
-    (pos 0 ∷ pos 25_000 ∷ pos 3_000 ∷ pos 571_500 ∷ pos 1_571_500 ∷ pos 0 ∷ pos 0 ∷ minus 50 ∷ minus 50 ∷ pos 1 ∷ pos 1 ∷ []))
+    (pos 0 ∷ pos 25_000 ∷ pos 3_000 ∷ pos 571_500 ∷ pos 1_571_500 ∷ pos 0 ∷ pos 0 ∷ minus 50 ∷ minus 50 ∷ pos 1
+    ∷ pos 1 ∷ []))
     ∷ (aResult (buying 80) (resultAt 2_900) gives
-    (pos 0 ∷ pos 1_000 ∷ pos 1_160 ∷ minus 234_660 ∷ pos 765_340 ∷ pos 0 ∷ pos 0 ∷ pos 30 ∷ pos 30 ∷ pos 1 ∷ pos 1 ∷ []))
+    (pos 0 ∷ pos 1_000 ∷ pos 1_160 ∷ minus 234_660 ∷ pos 765_340 ∷ pos 0 ∷ pos 0 ∷ pos 30 ∷ pos 30 ∷ pos 1 ∷ pos 1
+    ∷ []))
     ∷ (anOrder (lastAt 100) (orderFor abc 1) gives (pos 0 ∷ pos 1 ∷ []))
     ∷ (anOrder (lastAt 99) (orderFor abc 1) gives (pos 0 ∷ pos 0 ∷ []))
     ∷ (aResult (gaining 2_997) (resultAt 3_000) gives
@@ -98,7 +104,8 @@ table =
     ∷ (anOrder waiting (orderFor seven 5) gives (pos 0 ∷ pos 3 ∷ []))
     ∷ (anOrder waiting (orderFor eight 5) gives (minus 103 ∷ pos 0 ∷ []))
     ∷ (aResult (selling 1 120 5) (resultAt 3_000) gives
-    (pos 0 ∷ pos 22_000 ∷ pos 1_800 ∷ pos 335_700 ∷ pos 1_335_700 ∷ pos 0 ∷ pos 30 ∷ pos 0 ∷ pos 30 ∷ pos 1 ∷ pos 1 ∷ []))
+    (pos 0 ∷ pos 22_000 ∷ pos 1_800 ∷ pos 335_700 ∷ pos 1_335_700 ∷ pos 0 ∷ pos 30 ∷ pos 0 ∷ pos 30 ∷ pos 1 ∷ pos 1
+    ∷ []))
     ∷ (aResult (selling 1 120 4) (resultAt 3_000) gives
     (minus 105 ∷ pos 0 ∷ pos 0 ∷ pos 0 ∷ pos 0 ∷ pos 100 ∷ pos 50 ∷ pos 0 ∷ pos 150 ∷ pos 2 ∷ pos 1 ∷ []))
     ∷ []

@@ -1,6 +1,5 @@
--- Lookup: clause 3.3.6, first frame. "Answers, two records for each in turn: the trade row, then its settlement row or zeros."
--- Assumes nothing.
-use mathlib.Core.Bool.{Bool, true, false}
+-- Lookup: clause 3.3.6, first frame. "Answers, two records for each in turn: the trade row, then its settlement row
+-- or zeros." Assumes nothing.
 use mathlib.Core.List.{List, [], _∷_}
 use Rattle.laws.specs.Search.{every}
 use Rattle.record.specs.declared.row.Row.{Row}
@@ -16,4 +15,5 @@ looked rs (i ∷ is) = found (aTrade (i .id)) rs ∷ found (aSettlement (i .id))
 -- a lookup on a sound book's rows
 unfoldable pub lookup : List Row → List Row → Outcome
 lookup rs inputs =
-    pick (every (λ (i : Row). there (aTrade (i .id)) rs) inputs) (accepted (looked rs inputs) rs) (refused LookupNoTrade rs)
+    pick (every (λ (i : Row). there (aTrade (i .id)) rs) inputs) (accepted (looked rs inputs) rs)
+    (refused LookupNoTrade rs)

@@ -1,14 +1,14 @@
--- The walk over lots: "A sell works on positive lots, a buy on negative ones, by rising time and then trade number, or both falling
--- with LIFO. After each lot the walk holds shares still needed, bought value and sold value. A lot larger than the need is reduced;
--- else it is removed .. For a sell, closed shares add their lot price to bought and the trade price to sold; for a buy, the
--- reverse." Assumes nothing.
+-- The walk over lots: "A sell works on positive lots, a buy on negative ones, by rising time and then trade number,
+-- or both falling with LIFO. After each lot the walk holds shares still needed, bought value and sold value. A lot
+-- larger than the need is reduced; else it is removed .. For a sell, closed shares add their lot price to bought and
+-- the trade price to sold; for a buy, the reverse." Assumes nothing.
 use mathlib.Core.Path.{_≡_, refl}
-use mathlib.Core.Bool.{Bool, true, false, cond, not, _&&_, _||_}
+use mathlib.Core.Bool.{Bool, true, false, cond, _&&_, _||_}
 use mathlib.Core.List.{List, [], _∷_}
 use Prim.Native.Nat.{ℕ, _+_, _-_, _*_, min}
 use native.Mathlib.Omega.{arith}
 use lib.Dec.{eqb, leb, ltb}
-use lib.IntN.{ℤ, pos, negℤ, natAbs}
+use lib.IntN.{natAbs}
 use borrow.Author.Tests.{eqb-true}
 use mir.Syntax.{w64}
 use mir.Val.{toZ}
@@ -72,25 +72,30 @@ closings need (l ∷ ls) =
     cond (eqb need 0) [] (record { lot = l; shares = taken need l } ∷ closings (need - taken need l) ls)
 
 -- what is taken from lots and what is still needed are the shares of the trade
+abbrev sharesTaken : List Closing → ℕ
+sharesTaken cs = total (λ (c : Closing). c .shares) cs
+
 unclosed : (form price : ℕ) (w : Walk) (ls : List Row) → w .need ≡ 0 → run (step form price) w ls .need ≡ 0
 unfolding run
 unclosed form price w [] e = e
 unclosed form price w (l ∷ ls) e = unclosed form price (step form price w l) ls (omega arith)
 
-all-shares : (form price : ℕ) (w : Walk) (ls : List Row)
-    → total (λ (c : Closing). c .shares) (closings (w .need) ls) + run (step form price) w ls .need ≡ w .need
+pub all-shares : (form price : ℕ) (w : Walk) (ls : List Row)
+    → sharesTaken (closings (w .need) ls) + run (step form price) w ls .need ≡ w .need
 unfolding run closings total
 all-shares form price w [] = omega arith
 all-shares form price w (l ∷ ls) = go (eqb (w .need) 0) refl (all-shares form price (step form price w l) ls)
   where
+    next : Walk
+    next = step form price w l
+
     rest : ℕ
-    rest = run (step form price) (step form price w l) ls .need
+    rest = run (step form price) next ls .need
 
     first : List Closing
-    first = record { lot = l; shares = taken (w .need) l } ∷ closings (w .need - taken (w .need) l) ls
+    first = record { lot = l; shares = taken (w .need) l } ∷ closings (next .need) ls
 
-    go : (t : Bool) → eqb (w .need) 0 ≡ t
-        → total (λ (c : Closing). c .shares) (closings (w .need - taken (w .need) l) ls) + rest ≡ w .need - taken (w .need) l
-        → total (λ (c : Closing). c .shares) (cond t [] first) + rest ≡ w .need
-    go true e ih = omega (arith, eqb-true (w .need) 0 e, unclosed form price (step form price w l) ls (omega (arith, eqb-true (w .need) 0 e)))
+    go : (t : Bool) → eqb (w .need) 0 ≡ t → sharesTaken (closings (next .need) ls) + rest ≡ next .need
+        → sharesTaken (cond t [] first) + rest ≡ w .need
+    go true e ih = let z = eqb-true (w .need) 0 e in omega (arith, unclosed form price next ls (omega arith))
     go false e ih = omega arith

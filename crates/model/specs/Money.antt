@@ -1,8 +1,8 @@
--- Values, tax, commission and settlement: "Both are rounded to the nearest cent, halves up, so each lies within half a cent of the
--- exact fraction." Assumes nothing.
+-- Values, tax, commission and settlement: "Both are rounded to the nearest cent, halves up, so each lies within half
+-- a cent of the exact fraction." Assumes nothing.
 use mathlib.Core.Path.{_≡_, refl, sym, ap}
-use mathlib.Core.Bool.{Bool, true, false, cond, _&&_, _||_}
-use Prim.Native.Nat.{ℕ, _+_, _-_, _*_, _/_, _%_, _≤_}
+use mathlib.Core.Bool.{Bool, cond, _&&_, _||_}
+use Prim.Native.Nat.{ℕ, _+_, _-_, _*_, _/_, _≤_}
 use native.Mathlib.Omega.{arith}
 use lib.Dec.{eqb, leb, ltb}
 use lib.IntN.{ℤ, pos, negℤ, _-ℤ_, +ℤ-idr}
@@ -60,5 +60,6 @@ pub subtracted : (form value charge commission tax : ℕ)
     → settlementOf form 1 value charge commission tax ≡ settlementOf form 0 value charge commission 0 -ℤ pos tax
 unfolding settlementOf
 subtracted form value charge commission tax =
-    ap (λ (z : ℤ). z -ℤ pos tax)
-    (sym (+ℤ-idr (cond (buys form) (negℤ (pos (value + charge + commission))) (pos value -ℤ pos charge -ℤ pos commission))))
+    let sell = pos value -ℤ pos charge -ℤ pos commission in
+    let whole = cond (buys form) (negℤ (pos (value + charge + commission))) sell in
+    ap (λ (z : ℤ). z -ℤ pos tax) (sym (+ℤ-idr whole))

@@ -2,7 +2,8 @@
 use mathlib.Core.List.{List, [], _∷_}
 use Prim.Native.Nat.{ℕ}
 use lib.ListN.{getD}
-use Rattle.record.specs.Codes.{kindAccount, kindBroker, kindCash, kindCharge, kindCustomer, kindLot, kindRequest, kindSecurity, kindSettlement, kindSummary, kindTaxRate, kindTrade, kindTradeHistory}
+use Rattle.record.specs.Codes.{kindAccount, kindBroker, kindCash, kindCharge, kindCustomer, kindLot, kindRequest}
+use Rattle.record.specs.Codes.{kindSecurity, kindSettlement, kindSummary, kindTaxRate, kindTrade, kindTradeHistory}
 use Rattle.record.specs.declared.row.Row.{Row}
 use Rattle.record.specs.declared.key.Key.{Key}
 

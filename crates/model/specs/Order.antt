@@ -1,6 +1,6 @@
--- Order: clause 3.3.7. Input: one record, kind 33; type; flags cash 1, LIFO 2, roll back 4; party; symbol; n1 shares; n2 bid; time.
--- Assumes nothing.
-use mathlib.Core.Bool.{Bool, true, false, cond, not, _&&_, _||_}
+-- Order: clause 3.3.7. Input: one record, kind 33; type; flags cash 1, LIFO 2, roll back 4; party; symbol; n1 shares;
+-- n2 bid; time. Assumes nothing.
+use mathlib.Core.Bool.{Bool, true, false, cond, not}
 use mathlib.Core.List.{List, [], _∷_}
 use Prim.Native.Nat.{ℕ, _+_, _%_}
 use lib.Dec.{leb}
@@ -8,7 +8,8 @@ use Rattle.laws.specs.Search.{largest}
 use Rattle.record.specs.Codes.{kindFree, kindOrder, kindRequest, kindTrade, kindTradeHistory, pending, submitted, tms}
 use Rattle.record.specs.declared.row.Row.{Row}
 use Rattle.rules.specs.Ranges.{flags, form, id, kind, m1, m2, n1, n2, n3, n4, party, status, symbol, tradeNumber, when}
-use Rattle.model.specs.declared.Status.the-variants.{OrderNoAccount, OrderNoCharge, OrderNoRate, OrderNoSecurity, OrderNoTax}
+use Rattle.model.specs.declared.Status.the-variants.{OrderNoAccount, OrderNoCharge, OrderNoRate}
+use Rattle.model.specs.declared.Status.the-variants.{OrderNoSecurity, OrderNoTax}
 use Rattle.model.specs.Band.{bandRate}
 use Rattle.model.specs.Edit.{_≔_, inSymbol, new}
 use Rattle.model.specs.Flags.{rollBack}

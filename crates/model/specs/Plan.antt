@@ -1,6 +1,6 @@
--- A call decides in three steps: it views what it reads, it plans from the view alone (a refusal, or what to post), and it finishes:
--- limits and room, then the rows. Assumes nothing.
-use mathlib.Core.Bool.{Bool, true, false, cond}
+-- A call decides in three steps: it views what it reads, it plans from the view alone (a refusal, or what to post),
+-- and it finishes: limits and room, then the rows. Assumes nothing.
+use mathlib.Core.Bool.{Bool, true, false}
 use mathlib.Core.List.{List, [], _∷_}
 use Prim.Native.Nat.{ℕ}
 use lib.Dec.{leb}

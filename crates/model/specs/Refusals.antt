@@ -1,5 +1,5 @@
--- "Status numbers, in order of checking": cases in which two refusals or more are due, and the one that is given. One table and one
--- claim, which the checker computes. Assumes nothing.
+-- "Status numbers, in order of checking": cases in which two refusals or more are due, and the one that is given. One
+-- table and one claim, which the checker computes. Assumes nothing.
 use mathlib.Core.Path.{_≡_, refl}
 use mathlib.Core.List.{List, [], _∷_, _++_, map}
 use Prim.Native.Nat.{ℕ}
@@ -14,7 +14,8 @@ use Rattle.model.specs.Call.{feedCall, lookupCall, orderCall, resultCall
 use Rattle.model.specs.Edit.{_≔_, changed}
 use Rattle.model.specs.Evaluate.{feedOpened, lookupOpened, orderOpened, resultOpened}
 use Rattle.model.specs.Rows.{bytes}
-use Rattle.model.specs.Sample.{abc, atLimits, day, entryAt, gaining, lastNumber, lookupOf, orderFor, orderOf, resultAt, selling, without}
+use Rattle.model.specs.Sample.{abc, atLimits, day, entryAt, gaining, lastNumber, lookupOf, orderFor, orderOf}
+use Rattle.model.specs.Sample.{resultAt, selling, without}
 use Rattle.model.specs.Status.{number}
 
 pub data Case : Type 0 where
@@ -93,6 +94,7 @@ table =
     ∷ []
 
 -- the first of the table's conditions that holds gives the status
-pub refusals-in-order : map (λ (f : Refusal). given (f .case)) table ≡ map (λ (f : Refusal). negℤ (pos (f .status))) table
+pub refusals-in-order :
+    map (λ (f : Refusal). given (f .case)) table ≡ map (λ (f : Refusal). negℤ (pos (f .status))) table
 unfolding given
 refusals-in-order = refl

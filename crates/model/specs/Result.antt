@@ -1,15 +1,17 @@
 -- Result: clause 3.3.8. Input: one record, kind 34, id, n1 price, time. Assumes nothing.
-use mathlib.Core.Bool.{Bool, true, false, cond, not, _&&_, _||_}
+use mathlib.Core.Bool.{Bool, cond, not, _&&_}
 use mathlib.Core.List.{List, [], _∷_, _++_, map}
-use Prim.Native.Nat.{ℕ, _+_, _-_, _*_, _≤_}
+use Prim.Native.Nat.{ℕ, _+_, _-_, _*_}
 use lib.Dec.{eqb, leb, ltb}
 use lib.IntN.{ℤ, pos, negℤ, natAbs, _+ℤ_}
 use mir.Syntax.{w64}
 use mir.Val.{toZ}
 use Rattle.laws.specs.Search.{keep}
-use Rattle.record.specs.Codes.{completed, kindCash, kindFree, kindLot, kindLotHistory, kindResult, kindSettlement, kindSummary, kindTradeHistory, submitted}
+use Rattle.record.specs.Codes.{completed, kindCash, kindFree, kindLot, kindLotHistory, kindResult, kindSettlement}
+use Rattle.record.specs.Codes.{kindSummary, kindTradeHistory, submitted}
 use Rattle.record.specs.declared.row.Row.{Row}
-use Rattle.rules.specs.Ranges.{brokerTrades, commissionTotal, flags, id, kind, m1, m2, moneyMost, n1, n2, n3, party, status, symbol, when}
+use Rattle.rules.specs.Ranges.{brokerTrades, commissionTotal, flags, id, kind, m1, m2, moneyMost, n1, n2, n3, party}
+use Rattle.rules.specs.Ranges.{status, symbol, when}
 use Rattle.model.specs.declared.Status.the-variants.{ResultNoRate, ResultNoTax, ResultNoTrade, ResultNotSubmitted}
 use Rattle.model.specs.Edit.{_≔_, bits32, bits64, changed, inSymbol, new}
 use Rattle.model.specs.Flags.{cash}

@@ -1,8 +1,7 @@
--- "A book is a run of 64-byte records without a header, 1 to 4,096 of them. A record of 64 zeros is free." A book is read as its
--- rows, place by place, free ones too. Assumes nothing.
-use mathlib.Core.Path.{_≡_, refl}
-use mathlib.Core.Bool.{Bool, true, false, _&&_}
-use mathlib.Core.List.{List, [], _∷_, map}
+-- "A book is a run of 64-byte records without a header, 1 to 4,096 of them. A record of 64 zeros is free." A book is
+-- read as its rows, place by place, free ones too. Assumes nothing.
+use mathlib.Core.Bool.{Bool, _&&_}
+use mathlib.Core.List.{List, map}
 use Prim.Native.Nat.{ℕ, _*_, _/_, _%_}
 use lib.Dec.{eqb, leb}
 use lib.ListN.{length}

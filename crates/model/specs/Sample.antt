@@ -6,9 +6,13 @@ use lib.Dec.{eqb}
 use lib.IntN.{ℤ, pos, negℤ}
 use lib.ListN.{replicate}
 use Rattle.laws.specs.Search.{keep}
-use Rattle.record.specs.Codes.{completed, kindAccount, kindBand, kindBroker, kindCharge, kindCustomer, kindCustomerRate, kindFeed, kindLot, kindLookup, kindOrder, kindRequest, kindResult, kindSecurity, kindSettlement, kindSummary, kindTaxRate, kindTrade, kindTradeHistory, pending, submitted, tlb, tmb, tms}
+use Rattle.record.specs.Codes.{completed, kindAccount, kindBand, kindBroker, kindCharge, kindCustomer}
+use Rattle.record.specs.Codes.{kindCustomerRate, kindFeed, kindLot, kindLookup, kindOrder, kindRequest, kindResult}
+use Rattle.record.specs.Codes.{kindSecurity, kindSettlement, kindSummary, kindTaxRate, kindTrade, kindTradeHistory}
+use Rattle.record.specs.Codes.{pending, submitted, tlb, tmb, tms}
 use Rattle.record.specs.declared.row.Row.{Row}
-use Rattle.rules.specs.Ranges.{flags, form, id, kind, m1, m2, n1, n2, n3, n4, party, status, symbol, tradeNumber, volume, brokerTrades, when}
+use Rattle.rules.specs.Ranges.{flags, form, id, kind, m1, n1, n2, n3, n4, party, status, symbol, tradeNumber, volume}
+use Rattle.rules.specs.Ranges.{brokerTrades, when}
 use Rattle.model.specs.Edit.{_≔_, bits64, changed, new}
 use Rattle.model.specs.Money.{buys}
 use Rattle.model.specs.Result.{settlementSeconds}
@@ -44,10 +48,13 @@ standing =
 abbrev done : ℕ → ℕ → ℕ → ℤ → ℕ → ℕ → List Row
 done number type shares left price time =
     new (
-    kind ≔ kindTrade ∷ form ≔ type ∷ status ≔ completed ∷ party ≔ 1 ∷ id ≔ number ∷ symbol ≔ abc ∷ n1 ≔ shares ∷ n2 ≔ price
+    kind ≔ kindTrade ∷ form ≔ type ∷ status ≔ completed ∷ party ≔ 1 ∷ id ≔ number ∷ symbol ≔ abc ∷ n1 ≔ shares
+    ∷ n2 ≔ price
     ∷ n3 ≔ price ∷ when ≔ time ∷ [])
     ∷ new (kind ≔ kindTradeHistory ∷ status ≔ completed ∷ id ≔ number ∷ when ≔ time ∷ [])
-    ∷ new (kind ≔ kindSettlement ∷ id ≔ number ∷ m1 ≔ bits64 (cond (buys type) (negℤ (pos (shares * price))) (pos (shares * price))) ∷ when ≔ (time + settlementSeconds) ∷ [])
+    ∷ new (kind ≔ kindSettlement ∷ id ≔ number
+    ∷ m1 ≔ bits64 (cond (buys type) (negℤ (pos (shares * price))) (pos (shares * price)))
+    ∷ when ≔ (time + settlementSeconds) ∷ [])
     ∷ new (
     kind ≔ kindLot ∷ party ≔ 1 ∷ id ≔ number ∷ symbol ≔ abc ∷ n1 ≔ price ∷ m1 ≔ bits64 left ∷ when ≔ time ∷ [])
     ∷ []
@@ -59,7 +66,8 @@ summary shares = new (kind ≔ kindSummary ∷ party ≔ 1 ∷ symbol ≔ abc �
 abbrev awaiting : ℕ → ℕ → ℕ → List Row
 awaiting type flag shares =
     new (
-    kind ≔ kindTrade ∷ form ≔ type ∷ status ≔ submitted ∷ flags ≔ flag ∷ party ≔ 1 ∷ id ≔ 12 ∷ symbol ≔ abc ∷ n1 ≔ shares
+    kind ≔ kindTrade ∷ form ≔ type ∷ status ≔ submitted ∷ flags ≔ flag ∷ party ≔ 1 ∷ id ≔ 12 ∷ symbol ≔ abc
+    ∷ n1 ≔ shares
     ∷ n2 ≔ 3_000 ∷ n4 ≔ 500 ∷ when ≔ 300 ∷ [])
     ∷ new (kind ≔ kindTradeHistory ∷ status ≔ submitted ∷ id ≔ 12 ∷ when ≔ 300 ∷ [])
     ∷ []
@@ -85,7 +93,8 @@ gaining price =
 abbrev requested : List Row
 requested =
     new (
-    kind ≔ kindTrade ∷ form ≔ tlb ∷ status ≔ pending ∷ party ≔ 1 ∷ id ≔ 20 ∷ symbol ≔ abc ∷ n1 ≔ 5 ∷ n2 ≔ 500 ∷ when ≔ 50
+    kind ≔ kindTrade ∷ form ≔ tlb ∷ status ≔ pending ∷ party ≔ 1 ∷ id ≔ 20 ∷ symbol ≔ abc ∷ n1 ≔ 5 ∷ n2 ≔ 500
+    ∷ when ≔ 50
     ∷ [])
     ∷ new (kind ≔ kindTradeHistory ∷ status ≔ pending ∷ id ≔ 20 ∷ when ≔ 50 ∷ [])
     ∷ new (kind ≔ kindRequest ∷ form ≔ tlb ∷ party ≔ 1 ∷ id ≔ 20 ∷ symbol ≔ abc ∷ n1 ≔ 5 ∷ n2 ≔ 500 ∷ [])
@@ -130,7 +139,8 @@ without k rs = keep (λ (r : Row). not (eqb (r .kind) k)) rs
 abbrev pub lastNumber : List Row
 lastNumber =
     new (
-    kind ≔ kindTrade ∷ form ≔ tlb ∷ status ≔ pending ∷ party ≔ 1 ∷ id ≔ tradeNumber .high ∷ symbol ≔ abc ∷ n1 ≔ 5 ∷ n2 ≔ 400
+    kind ≔ kindTrade ∷ form ≔ tlb ∷ status ≔ pending ∷ party ≔ 1 ∷ id ≔ tradeNumber .high ∷ symbol ≔ abc ∷ n1 ≔ 5
+    ∷ n2 ≔ 400
     ∷ [])
     ∷ new (kind ≔ kindTradeHistory ∷ status ≔ pending ∷ id ≔ tradeNumber .high ∷ [])
     ∷ new (kind ≔ kindRequest ∷ form ≔ tlb ∷ party ≔ 1 ∷ id ≔ tradeNumber .high ∷ symbol ≔ abc ∷ n1 ≔ 5 ∷ n2 ≔ 400 ∷ [])

@@ -1,5 +1,5 @@
 -- "A sound book", S1 to S10, each under its own name, as a test over all rows. Assumes nothing.
-use mathlib.Core.Bool.{Bool, true, cond, not, _&&_, _||_}
+use mathlib.Core.Bool.{Bool, cond, not, _&&_, _||_}
 use mathlib.Core.List.{List}
 use Prim.Native.Nat.{ℕ}
 use lib.Dec.{eqb, leb, ltb}
@@ -9,13 +9,15 @@ use mir.Syntax.{w64}
 use mir.Val.{toZ}
 use Rattle.laws.specs.Tests.{_⇔_}
 use Rattle.laws.specs.Search.{bit, every, count, total, sumZ}
-use Rattle.record.specs.Codes.{completed, kindBand, kindCash, kindCustomer, kindCustomerRate, kindFree, kindLot, kindLotHistory, kindRequest, kindSettlement, kindSummary, kindTrade, kindTradeHistory, pending, tlb}
+use Rattle.record.specs.Codes.{completed, kindBand, kindCash, kindCustomer, kindCustomerRate, kindFree, kindLot}
+use Rattle.record.specs.Codes.{kindLotHistory, kindSettlement, kindSummary, kindTrade, kindTradeHistory, pending, tlb}
 use Rattle.record.specs.Key.{keyOf}
 use Rattle.record.specs.declared.row.Row.{Row}
 use Rattle.rules.specs.Ranges.{taxPart}
 use Rattle.rules.specs.Rules.{fits}
 use Rattle.model.specs.Flags.{cash}
-use Rattle.model.specs.Names.{aCash, aHistory, aRequest, aSettlement, aSummary, aTaxRate, aTrade, anAccount, named}
+use Rattle.model.specs.Names.{aCash, aHistory, aRequest, aSettlement, aSummary, aTaxRate, aTrade, anAccount}
+use Rattle.model.specs.Names.{named}
 use Rattle.model.specs.Rows.{found, hasKey, is, there}
 
 -- the row is none of this kind, or obeys
@@ -89,8 +91,8 @@ historyRight rs t = there (aHistory (t .id) (t .status)) rs && eqb (count (highe
 unfoldable pub s7 : List Row → Bool
 s7 rs = every (each kindTrade (historyRight rs)) rs
 
--- "S8 a lot names a completed trade of its account and symbol. Lots of one account and symbol have one sign. A summary exists
--- exactly where lots do and equals their sum."
+-- "S8 a lot names a completed trade of its account and symbol. Lots of one account and symbol have one sign. A
+-- summary exists exactly where lots do and equals their sum."
 abbrev pub lotOf : ℕ → ℕ → Row → Bool
 lotOf account symbol r = is kindLot r && eqb (r .party) account && eqb (r .symbol) symbol
 
@@ -114,13 +116,14 @@ equalZ a b = leZ a b && leZ b a
 
 abbrev pub summaryRight : List Row → Row → Bool
 summaryRight rs s =
-    leb 1 (count (lotOf (s .party) (s .symbol)) rs) && equalZ (sumZ (sharesOf (s .party) (s .symbol)) rs) (toZ w64 (s .m1))
+    leb 1 (count (lotOf (s .party) (s .symbol)) rs)
+    && equalZ (sumZ (sharesOf (s .party) (s .symbol)) rs) (toZ w64 (s .m1))
 
 unfoldable pub s8 : List Row → Bool
 s8 rs = every (λ r. each kindLot (lotRight rs) r && each kindSummary (summaryRight rs) r) rs
 
--- "S9 a settlement exists exactly for a completed trade, its flag the trade's cash flag; a cash row exactly where that flag is 1,
--- with the same amount."
+-- "S9 a settlement exists exactly for a completed trade, its flag the trade's cash flag; a cash row exactly where
+-- that flag is 1, with the same amount."
 abbrev pub settled : List Row → Row → Bool
 settled rs t = eqb (count (hasKey (aSettlement (t .id))) rs) (bit (eqb (t .status) completed))
 
@@ -134,7 +137,8 @@ cashRight rs c =
 
 unfoldable pub s9 : List Row → Bool
 s9 rs =
-    every (λ r. each kindTrade (settled rs) r && each kindSettlement (settlementRight rs) r && each kindCash (cashRight rs) r) rs
+    every (λ r. each kindTrade (settled rs) r && each kindSettlement (settlementRight rs) r
+    && each kindCash (cashRight rs) r) rs
 
 -- "S10 both trades of a lot history are completed."
 abbrev pub tradesDone : List Row → Row → Bool

@@ -1,19 +1,21 @@
--- What each of S1 to S10 means, as a proposition about every row of the book. `means-s4`: the test is true exactly when the
--- proposition holds. Assumes nothing.
-use mathlib.Core.Path.{_≡_, refl, sym, ap, _∙_}
-use mathlib.Core.Bool.{Bool, true, false, cond, not, _&&_, _||_}
+-- What each of S1 to S10 means, as a proposition about every row of the book. `means-s4`: the test is true exactly
+-- when the proposition holds. Assumes nothing.
+use mathlib.Core.Path.{_≡_}
+use mathlib.Core.Bool.{Bool, not, _&&_, _||_}
 use mathlib.Core.List.{List, List·Memᴰ}
 use mathlib.Core.Logic.{_⊎_}
-use Prim.Native.Nat.{ℕ, _+_, _≤_, _<_}
+use Prim.Native.Nat.{ℕ, _≤_}
 use native.Mathlib.Omega.{arith}
-use lib.Dec.{eqb, leb, ltb}
-use lib.IntN.{ℤ, pos}
-use lib.Signed.{leZ, ltZ}
+use lib.Dec.{eqb}
+use lib.IntN.{ℤ}
+use lib.Signed.{leZ}
 use mir.Syntax.{w64}
 use mir.Val.{toZ}
-use Rattle.laws.specs.Tests.{Means, and-both, and-left, and-right, means-and, means-cond, means-eq, means-imp, means-le, means-or}
+use Rattle.laws.specs.Tests.{Means, and-both, and-left, and-right, means-and, means-cond, means-eq, means-imp}
+use Rattle.laws.specs.Tests.{means-le, means-or}
 use Rattle.laws.specs.Search.{bit, count, every, means-every, sumZ}
-use Rattle.record.specs.Codes.{completed, kindBand, kindCash, kindCustomer, kindFree, kindLot, kindLotHistory, kindSettlement, kindSummary, kindTrade, pending, tlb}
+use Rattle.record.specs.Codes.{completed, kindBand, kindCash, kindCustomer, kindFree, kindLot, kindLotHistory}
+use Rattle.record.specs.Codes.{kindSettlement, kindSummary, kindTrade, pending, tlb}
 use Rattle.record.specs.Key.{keyOf}
 use Rattle.record.specs.Signed.{eq-parts, le-parts, parts-le}
 use Rattle.record.specs.declared.key.Key.{Key}
@@ -133,7 +135,8 @@ means-lot rs l =
 
 abbrev pub SummaryRight : List Row → Row → Type 0
 SummaryRight rs s =
-    (1 ≤ count (Sound.lotOf (s .party) (s .symbol)) rs) × (sumZ (Sound.sharesOf (s .party) (s .symbol)) rs ≡ toZ w64 (s .m1))
+    (1 ≤ count (Sound.lotOf (s .party) (s .symbol)) rs)
+    × (sumZ (Sound.sharesOf (s .party) (s .symbol)) rs ≡ toZ w64 (s .m1))
 
 means-equalZ : (a b : ℤ) → Means (leZ a b && leZ b a) (a ≡ b)
 means-equalZ a b = record {
@@ -181,9 +184,11 @@ means-s9 rs =
     (means-imp (means-eq (r .kind) kindTrade)
     (means-eq (count (hasKey (aSettlement (r .id))) rs) (bit (eqb (r .status) completed))))
     (means-imp (means-eq (r .kind) kindSettlement)
-    (means-and (means-eq (r .flags) (bit (cash (tradeOf rs (r .id) .flags)))) (means-eq (count (hasKey (aCash (r .id))) rs) (r .flags)))))
+    (means-and (means-eq (r .flags) (bit (cash (tradeOf rs (r .id) .flags))))
+    (means-eq (count (hasKey (aCash (r .id))) rs) (r .flags)))))
     (means-imp (means-eq (r .kind) kindCash)
-    (means-and (means-eq (found (aSettlement (r .id)) rs .flags) 1) (means-eq (found (aSettlement (r .id)) rs .m1) (r .m1)))))
+    (means-and (means-eq (found (aSettlement (r .id)) rs .flags) 1)
+    (means-eq (found (aSettlement (r .id)) rs .m1) (r .m1)))))
 
 -- ---- S10
 abbrev pub S10 : List Row → Type 0
@@ -214,17 +219,9 @@ means-all : (rs : List Row)
     (((((((((S1 rs × S2 rs) × S3 rs) × S4 rs) × S5 rs) × S6 rs) × S7 rs) × S8 rs) × S9 rs) × S10 rs)
 unfolding Sound.sound
 means-all rs =
-    means-and
-    (means-and
-    (means-and
-    (means-and
-    (means-and
-    (means-and (means-and (means-and (means-and (means-s1 rs) (means-s2 rs)) (means-s3 rs)) (means-s4 rs)) (means-s5 rs))
-    (means-s6 rs))
-    (means-s7 rs))
-    (means-s8 rs))
-    (means-s9 rs))
-    (means-s10 rs)
+    let four = means-and (means-and (means-and (means-s1 rs) (means-s2 rs)) (means-s3 rs)) (means-s4 rs) in
+    let seven = means-and (means-and (means-and four (means-s5 rs)) (means-s6 rs)) (means-s7 rs) in
+    means-and (means-and (means-and seven (means-s8 rs)) (means-s9 rs)) (means-s10 rs)
 
 pub means-sound : (rs : List Row) → Means (Sound.sound rs) (SoundBook rs)
 means-sound rs = record {

@@ -2,7 +2,11 @@
 use Prim.Native.Nat.{ℕ}
 use lib.IntN.{ℤ, pos, negℤ}
 use Rattle.model.specs.declared.Status.{Status}
-use Rattle.model.specs.declared.Status.the-variants.{Done, BadLength, BadBook, Unsound, BadInput, OverLimit, NoRoom, OrderNoAccount, OrderNoSecurity, OrderNoTax, OrderNoRate, OrderNoCharge, ResultNoTrade, ResultNotSubmitted, ResultNoTax, ResultNoRate, FeedNoSecurity, LookupNoTrade}
+use Rattle.model.specs.declared.Status.the-variants.{Done, BadLength, BadBook, Unsound, BadInput, OverLimit}
+use Rattle.model.specs.declared.Status.the-variants.{NoRoom, OrderNoAccount, OrderNoSecurity, OrderNoTax}
+use Rattle.model.specs.declared.Status.the-variants.{OrderNoRate, OrderNoCharge, ResultNoTrade}
+use Rattle.model.specs.declared.Status.the-variants.{ResultNotSubmitted, ResultNoTax, ResultNoRate}
+use Rattle.model.specs.declared.Status.the-variants.{FeedNoSecurity, LookupNoTrade}
 
 -- -n, for n above zero
 abbrev minus : ℕ → ℤ

@@ -1,4 +1,5 @@
--- The tally: "the trades over a square of five trade types by three statuses", of a book of at most 1,024 records. Assumes nothing.
+-- The tally: "the trades over a square of five trade types by three statuses", of a book of at most 1,024 records.
+-- Assumes nothing.
 use mathlib.Core.Bool.{Bool, true, false, _&&_}
 use mathlib.Core.List.{List, [], _∷_, map}
 use Prim.Native.Nat.{ℕ}

@@ -1,7 +1,6 @@
 -- Nothing here is vacuous: a sound book, found sound by computation, on which each call is accepted. Assumes nothing.
 use mathlib.Core.Path.{_≡_, refl}
 use mathlib.Core.Bool.{true}
-use mathlib.Core.List.{List, [], _∷_}
 use lib.ListN.{replicate}
 use Rattle.record.specs.Grid.{encode}
 use Rattle.model.specs.declared.Status.the-variants.{Done}

@@ -1,11 +1,12 @@
--- Numbers in a list of bytes: "Numbers are little-endian." A symbol is no number: its bytes are compared from the first one
--- on, and as a number with the first byte highest they are compared so. Assumes nothing.
-use mathlib.Core.Path.{_≡_, refl, sym, ap, subst, _∙_}
+-- Numbers in a list of bytes: "Numbers are little-endian." A symbol is no number: its bytes are compared from the
+-- first one on, and as a number with the first byte highest they are compared so. Assumes nothing.
+use mathlib.Core.Path.{_≡_, refl, ap, subst, _∙_}
 use mathlib.Core.List.{List, [], _∷_}
 use Prim.Native.Nat.{ℕ, zero, suc, _+_, _*_, _/_, _%_, _^_, _≤_, _<_}
 use native.Mathlib.Omega.{arith}
 use native.Mathlib.Numerals.{add-one}
-use native.Mathlib.Nat.{pow-suc, suc-mul, mul-le-mul-right, mod-lt, div-add-mod', mul-add-div-right, mul-add-mod-self-right, div-eq-of-lt, mod-eq-of-lt}
+use native.Mathlib.Nat.{pow-suc, suc-mul, mul-le-mul-right, mod-lt, div-add-mod', mul-add-div-right}
+use native.Mathlib.Nat.{mul-add-mod-self-right, div-eq-of-lt, mod-eq-of-lt}
 use lib.ListN.{getD, set}
 use lib.Seq.{sets}
 use Rattle.laws.specs.Lists.{listed}

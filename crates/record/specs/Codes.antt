@@ -1,5 +1,5 @@
--- The numbers that stand for a kind of record, a trade type and a trade status: "Trade types: 1 TMB, 2 TMS, 3 TLB, 4 TLS, 5 TSL;
--- 1 and 3 buy. Statuses: 1 PNDG, 2 SBMT, 3 CMPT." Assumes nothing.
+-- The numbers that stand for a kind of record, a trade type and a trade status: "Trade types: 1 TMB, 2 TMS, 3 TLB, 4
+-- TLS, 5 TSL; 1 and 3 buy. Statuses: 1 PNDG, 2 SBMT, 3 CMPT." Assumes nothing.
 use Prim.Native.Nat.{ℕ}
 
 abbrev pub kindFree : ℕ

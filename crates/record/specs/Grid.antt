@@ -1,5 +1,5 @@
--- "From byte 0, one byte each: kind, type, status, flags. Party 4 (four bytes), id 8, symbol 16 (eight each), n1 24, n2 28,
--- n3 32, n4 36 (four each), m1 40, m2 48 (eight each), time 56, n5 60 (four each)." Assumes nothing.
+-- "From byte 0, one byte each: kind, type, status, flags. Party 4 (four bytes), id 8, symbol 16 (eight each), n1 24,
+-- n2 28, n3 32, n4 36 (four each), m1 40, m2 48 (eight each), time 56, n5 60 (four each)." Assumes nothing.
 use mathlib.Core.Path.{_≡_, refl, sym, ap, _∙_}
 use mathlib.Core.List.{List, [], _∷_, _++_}
 use Prim.Native.Nat.{ℕ, _^_, _<_}
@@ -151,5 +151,6 @@ encode-decode l h b =
     let e12 = bytes-le 8 48 l b in
     let e13 = bytes-le 4 56 l b in
     let e14 = bytes-le 4 60 l b in
-    (λ i. e0 i ++ e1 i ++ e2 i ++ e3 i ++ e4 i ++ e5 i ++ e6 i ++ e7 i ++ e8 i ++ e9 i ++ e10 i ++ e11 i ++ e12 i ++ e13 i ++ e14 i)
+    (λ i. e0 i ++ e1 i ++ e2 i ++ e3 i ++ e4 i ++ e5 i ++ e6 i ++ e7 i ++ e8 i ++ e9 i ++ e10 i ++ e11 i ++ e12 i
+    ++ e13 i ++ e14 i)
     ∙ sym (listed-is 0 64 l h)

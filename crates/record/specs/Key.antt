@@ -1,10 +1,12 @@
--- A row's key. The table of the kinds marks which fields are the key's; "the rows by kind and then key, its fields in grid order
--- as numbers, symbols byte by byte". That order is the order of one number. Assumes nothing.
-use mathlib.Core.Bool.{Bool, true, false, cond, _&&_, _||_}
+-- A row's key. The table of the kinds marks which fields are the key's; "the rows by kind and then key, its fields in
+-- grid order as numbers, symbols byte by byte". That order is the order of one number. Assumes nothing.
+use mathlib.Core.Bool.{Bool, false, cond, _&&_, _||_}
 use mathlib.Core.List.{List, [], _∷_}
 use Prim.Native.Nat.{ℕ, _+_, _*_, _^_}
-use lib.Dec.{eqb, ltb}
-use Rattle.record.specs.Codes.{kindAccount, kindBand, kindBroker, kindCash, kindCharge, kindCustomer, kindCustomerRate, kindLot, kindLotHistory, kindRequest, kindSecurity, kindSettlement, kindSummary, kindTaxRate, kindTrade, kindTradeHistory}
+use lib.Dec.{eqb}
+use Rattle.record.specs.Codes.{kindAccount, kindBand, kindBroker, kindCash, kindCharge, kindCustomer}
+use Rattle.record.specs.Codes.{kindCustomerRate, kindLot, kindLotHistory, kindRequest, kindSecurity}
+use Rattle.record.specs.Codes.{kindSettlement, kindSummary, kindTaxRate, kindTrade, kindTradeHistory}
 use Rattle.record.specs.declared.row.Row.{Row}
 use Rattle.record.specs.declared.key.Key.{Key}
 
@@ -64,5 +66,5 @@ sameKey a b =
 -- the key as one number: its fields as digits, each in the base of its width
 unfoldable pub keyNumber : Key → ℕ
 keyNumber k =
-    (((((((k .kind * 2 ^ 8 + k .form) * 2 ^ 8 + k .status) * 2 ^ 8 + k .flags) * 2 ^ 32 + k .party) * 2 ^ 64 + k .id) * 2 ^ 64
-    + k .symbol) * 2 ^ 32 + k .n1) * 2 ^ 64 + k .m2
+    (((((((k .kind * 2 ^ 8 + k .form) * 2 ^ 8 + k .status) * 2 ^ 8 + k .flags) * 2 ^ 32 + k .party) * 2 ^ 64 + k .id)
+    * 2 ^ 64 + k .symbol) * 2 ^ 32 + k .n1) * 2 ^ 64 + k .m2

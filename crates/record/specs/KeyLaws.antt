@@ -1,15 +1,15 @@
--- The order of keys is strict and total, and equal keys have equal key fields. The order is that of a number whose digits the
--- fields are, so each law is one of numbers. Assumes nothing.
+-- The order of keys is strict and total, and equal keys have equal key fields. The order is that of a number whose
+-- digits the fields are, so each law is one of numbers. Assumes nothing.
 use mathlib.Core.Path.{_≡_, refl, sym, ap, _∙_}
-use mathlib.Core.Bool.{Bool, true, false, cond, _&&_, _||_}
+use mathlib.Core.Bool.{Bool, true, false, cond}
 use mathlib.Core.List.{List, [], _∷_}
 use Prim.Native.Nat.{ℕ, _^_, _<_}
 use native.Mathlib.Nat.{lt-trans, le-refl, le-antisymm}
 use lib.Dec.{eqb, ltb}
 use borrow.Author.Tests.{eqb-true, eq-eqb, ltb-true, ltb-false, lt-ltb, le-ltb}
-use Rattle.laws.specs.Digits.{Digit, same, less, InBase, same-number, less-number, head-equal, digits-equal}
-use Rattle.laws.specs.Tests.{and-left, and-right}
-use Rattle.record.specs.Key.{among, byForm, byStatus, byFlags, byParty, byId, bySymbol, byN1, byM2, keyOf, sameKey, keyNumber}
+use Rattle.laws.specs.Digits.{Digit, less, InBase, same-number, less-number, head-equal, digits-equal}
+use Rattle.record.specs.Key.{among, byForm, byStatus, byFlags, byParty, byId, bySymbol, byN1, byM2, keyOf}
+use Rattle.record.specs.Key.{sameKey, keyNumber}
 use Rattle.record.specs.declared.row.Row.{Row}
 use Rattle.record.specs.declared.key.Key.{Key}
 
@@ -148,10 +148,12 @@ pub record Alike (r s : Row) : Type 0 where
   pub n1 : among (r .kind) byN1 ≡ true → r .n1 ≡ s .n1
   pub m2 : among (r .kind) byM2 ≡ true → r .m2 ≡ s .m2
 
--- x and y are kept under one test of equal kinds
-named-same : (t : ℕ → Bool) (k j x y : ℕ) → k ≡ j → cond (t k) x 0 ≡ cond (t j) y 0 → t k ≡ true → x ≡ y
-named-same t k j x y e f h =
-    sym (ap (λ (v : Bool). cond v x 0) h) ∙ f ∙ ap (λ (v : Bool). cond v y 0) (ap t (sym e) ∙ h)
+-- x and y are kept for the same of two equal kinds
+named-same : (r s : Row) → r .kind ≡ s .kind → (ks : List ℕ) (x y : ℕ)
+    → cond (among (r .kind) ks) x 0 ≡ cond (among (s .kind) ks) y 0 → among (r .kind) ks ≡ true → x ≡ y
+named-same r s e ks x y f h =
+    let there = ap (λ (k : ℕ). among k ks) (sym e) ∙ h in
+    sym (ap (λ (v : Bool). cond v x 0) h) ∙ f ∙ ap (λ (v : Bool). cond v y 0) there
 
 -- equal keys, equal key fields
 pub keys-tell : (r s : Row) → keyOf r ≡ keyOf s → Alike r s
@@ -160,14 +162,14 @@ keys-tell r s e =
     let k : r .kind ≡ s .kind = ap (λ (x : Key). x .kind) e in
     record {
       kind = k;
-      form = named-same (λ (n : ℕ). among n byForm) (r .kind) (s .kind) (r .form) (s .form) k (ap (λ (x : Key). x .form) e);
-      status = named-same (λ (n : ℕ). among n byStatus) (r .kind) (s .kind) (r .status) (s .status) k (ap (λ (x : Key). x .status) e);
-      flags = named-same (λ (n : ℕ). among n byFlags) (r .kind) (s .kind) (r .flags) (s .flags) k (ap (λ (x : Key). x .flags) e);
-      party = named-same (λ (n : ℕ). among n byParty) (r .kind) (s .kind) (r .party) (s .party) k (ap (λ (x : Key). x .party) e);
-      id = named-same (λ (n : ℕ). among n byId) (r .kind) (s .kind) (r .id) (s .id) k (ap (λ (x : Key). x .id) e);
-      symbol = named-same (λ (n : ℕ). among n bySymbol) (r .kind) (s .kind) (r .symbol) (s .symbol) k (ap (λ (x : Key). x .symbol) e);
-      n1 = named-same (λ (n : ℕ). among n byN1) (r .kind) (s .kind) (r .n1) (s .n1) k (ap (λ (x : Key). x .n1) e);
-      m2 = named-same (λ (n : ℕ). among n byM2) (r .kind) (s .kind) (r .m2) (s .m2) k (ap (λ (x : Key). x .m2) e);
+      form = named-same r s k byForm (r .form) (s .form) (ap (λ (x : Key). x .form) e);
+      status = named-same r s k byStatus (r .status) (s .status) (ap (λ (x : Key). x .status) e);
+      flags = named-same r s k byFlags (r .flags) (s .flags) (ap (λ (x : Key). x .flags) e);
+      party = named-same r s k byParty (r .party) (s .party) (ap (λ (x : Key). x .party) e);
+      id = named-same r s k byId (r .id) (s .id) (ap (λ (x : Key). x .id) e);
+      symbol = named-same r s k bySymbol (r .symbol) (s .symbol) (ap (λ (x : Key). x .symbol) e);
+      n1 = named-same r s k byN1 (r .n1) (s .n1) (ap (λ (x : Key). x .n1) e);
+      m2 = named-same r s k byM2 (r .m2) (s .m2) (ap (λ (x : Key). x .m2) e);
     }
 
 -- ---- a strict total order: that of the numbers

@@ -1,11 +1,11 @@
-// Numbers in the bytes of a record: little-endian, signed ones in two's complement; and a symbol's eight bytes as one number.
+// Numbers in the bytes of a record: little-endian, signed ones in two's complement; and a symbol's eight bytes as one
+// number.
 ghost use mathlib.Core.Path.{_≡_};
 ghost use Prim.Native.Nat.{_+_, _<_, _≤_};
 ghost use lib.ListN.{length};
 ghost use mir.Syntax.{w32, w64};
 ghost use mir.Val.{ofZ, toZ};
-ghost use lib.Seq.{sets};
-ghost use Rattle.record.specs.Bytes.{be, le, spelt, stored};
+ghost use Rattle.record.specs.Bytes.{be, le};
 
 fn wide8(x: u8) -> u32
     ensures { λ r. ⌜ (r ≡ x) × (r < 256) ⌝ }

@@ -7,8 +7,8 @@ ghost use Rattle.record.specs.Bytes.{spelt, stored};
 ghost use Rattle.record.specs.Grid.{decode, encode};
 use crate::bytes;
 
-// The fifteen fields in the order of their bytes. `form` is the field that the rules call type; a signed field stands as its
-// bits; the symbol's first byte is the number's highest.
+// The fifteen fields in the order of their bytes. `form` is the field that the rules call type; a signed field stands
+// as its bits; the symbol's first byte is the number's highest.
 pub struct Row {
     pub kind: u8,
     pub form: u8,

@@ -1,5 +1,5 @@
--- What each rule of the grid means, as a proposition: the bounds of each field, and the rules that are no range. `means-..`: the
--- test is true exactly when the proposition holds. Assumes nothing.
+-- What each rule of the grid means, as a proposition: the bounds of each field, and the rules that are no range.
+-- `means-..`: the test is true exactly when the proposition holds. Assumes nothing.
 use mathlib.Core.Path.{_≡_, sym, ap, _∙_}
 use mathlib.Core.Bool.{Bool, false, false≢true}
 use mathlib.Core.List.{List, [], _∷_}
@@ -125,11 +125,17 @@ unfolding charge
 means-charge r = means-limited r chargeLimits
 
 abbrev pub Trade : Row → Type 0
-Trade r = ((Limited r tradeLimits × (((r .n3 ≡ 0 → ⊥) → r .status ≡ completed) × (r .status ≡ completed → r .n3 ≡ 0 → ⊥))) × ((r .m2 ≡ 0) ⊎ (r .status ≡ completed))) × (Symbol (r .symbol))
+Trade r = ((Limited r tradeLimits × (((r .n3 ≡ 0 → ⊥) → r .status ≡ completed) × (r .status ≡ completed → r .n3 ≡ 0
+    → ⊥))) × ((r .m2 ≡ 0) ⊎ (r .status ≡ completed))) × (Symbol (r .symbol))
 
 pub means-trade : (r : Row) → Means (trade r) (Trade r)
 unfolding trade
-means-trade r = means-and (means-and (means-and (means-limited r tradeLimits) (means-iff (means-ne (r .n3) 0) (means-eq (r .status) completed))) (means-or (means-eq (r .m2) 0) (means-eq (r .status) completed))) (means-symbol (r .symbol))
+means-trade r =
+    means-and
+    (means-and
+    (means-and (means-limited r tradeLimits) (means-iff (means-ne (r .n3) 0) (means-eq (r .status) completed)))
+    (means-or (means-eq (r .m2) 0) (means-eq (r .status) completed)))
+    (means-symbol (r .symbol))
 
 abbrev pub Request : Row → Type 0
 Request r = Limited r requestLimits × (Symbol (r .symbol))
@@ -150,7 +156,12 @@ Lot r = ((Limited r lotLimits × (r .m1 ≡ 0 → ⊥)) × (natAbs (toZ w64 (r .
 
 pub means-lot : (r : Row) → Means (lot r) (Lot r)
 unfolding lot
-means-lot r = means-and (means-and (means-and (means-limited r lotLimits) (means-ne (r .m1) 0)) (means-near w64 (r .m1) sharesMost)) (means-symbol (r .symbol))
+means-lot r =
+    means-and
+    (means-and
+    (means-and (means-limited r lotLimits) (means-ne (r .m1) 0))
+    (means-near w64 (r .m1) sharesMost))
+    (means-symbol (r .symbol))
 
 abbrev pub Summary : Row → Type 0
 Summary r = (Limited r summaryLimits × (r .m1 ≡ 0 → ⊥)) × (Symbol (r .symbol))
@@ -160,11 +171,17 @@ unfolding summary
 means-summary r = means-and (means-and (means-limited r summaryLimits) (means-ne (r .m1) 0)) (means-symbol (r .symbol))
 
 abbrev pub LotHistory : Row → Type 0
-LotHistory r = ((Limited r lotHistoryLimits × (r .n1 ≡ r .n2 → ⊥)) × (natAbs (toZ w32 (r .n1)) ≤ sharesMost)) × (natAbs (toZ w32 (r .n2)) ≤ sharesMost)
+LotHistory r = ((Limited r lotHistoryLimits × (r .n1 ≡ r .n2 → ⊥)) × (natAbs (toZ w32 (r .n1)) ≤ sharesMost))
+    × (natAbs (toZ w32 (r .n2)) ≤ sharesMost)
 
 pub means-lot-history : (r : Row) → Means (lotHistory r) (LotHistory r)
 unfolding lotHistory
-means-lot-history r = means-and (means-and (means-and (means-limited r lotHistoryLimits) (means-ne (r .n1) (r .n2))) (means-near w32 (r .n1) sharesMost)) (means-near w32 (r .n2) sharesMost)
+means-lot-history r =
+    means-and
+    (means-and
+    (means-and (means-limited r lotHistoryLimits) (means-ne (r .n1) (r .n2)))
+    (means-near w32 (r .n1) sharesMost))
+    (means-near w32 (r .n2) sharesMost)
 
 abbrev pub Settlement : Row → Type 0
 Settlement r = Limited r settlementLimits × (natAbs (toZ w64 (r .m1)) ≤ moneyMost)
@@ -181,11 +198,15 @@ unfolding cash
 means-cash r = means-and (means-limited r cashLimits) (means-near w64 (r .m1) moneyMost)
 
 abbrev pub OrderInput : Row → Type 0
-OrderInput r = (Limited r orderInputLimits × (((r .n2 ≡ 0 → r .form ≤ tms) × (r .form ≤ tms → r .n2 ≡ 0)))) × (Symbol (r .symbol))
+OrderInput r = (Limited r orderInputLimits × (((r .n2 ≡ 0 → r .form ≤ tms) × (r .form ≤ tms → r .n2 ≡ 0))))
+    × (Symbol (r .symbol))
 
 pub means-order-input : (r : Row) → Means (orderInput r) (OrderInput r)
 unfolding orderInput
-means-order-input r = means-and (means-and (means-limited r orderInputLimits) (means-iff (means-eq (r .n2) 0) (means-le (r .form) tms))) (means-symbol (r .symbol))
+means-order-input r =
+    means-and
+    (means-and (means-limited r orderInputLimits) (means-iff (means-eq (r .n2) 0) (means-le (r .form) tms)))
+    (means-symbol (r .symbol))
 
 abbrev pub ResultInput : Row → Type 0
 ResultInput r = Limited r resultInputLimits

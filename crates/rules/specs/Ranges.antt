@@ -1,10 +1,10 @@
--- A range for each of a row's fields, and the numbers of the rules, each under its name: "Prices are 1..99,999,999, shares
--- 1..999,999 .., times 0..4,000,000,000 seconds from 2000-01-01, trade numbers 1..999,999,999,999,999, other numbers that name
--- a party or rate 1..999,999,999." "Unused fields are zero." Assumes nothing.
+-- A range for each of a row's fields, and the numbers of the rules, each under its name: "Prices are 1..99,999,999,
+-- shares 1..999,999 .., times 0..4,000,000,000 seconds from 2000-01-01, trade numbers 1..999,999,999,999,999, other
+-- numbers that name a party or rate 1..999,999,999." "Unused fields are zero." Assumes nothing.
 use mathlib.Core.Path.{_≡_, refl}
 use mathlib.Core.Bool.{Bool, true, _&&_}
 use mathlib.Core.List.{List, [], _∷_}
-use Prim.Native.Nat.{ℕ, zero, suc, _≤_}
+use Prim.Native.Nat.{ℕ, _≤_}
 use lib.ListN.{replicate, set}
 use lib.Dec.{leb}
 use Rattle.laws.specs.Tests.{Means, means-le, means-and, and-left, and-right}
@@ -110,7 +110,8 @@ moneyMost = 999_999_999_999_999
 -- ---- a row's fields by their order in the grid
 abbrev pub values : Row → List ℕ
 values r =
-    r .kind ∷ r .form ∷ r .status ∷ r .flags ∷ r .party ∷ r .id ∷ r .symbol ∷ r .n1 ∷ r .n2 ∷ r .n3 ∷ r .n4 ∷ r .m1 ∷ r .m2
+    r .kind ∷ r .form ∷ r .status ∷ r .flags ∷ r .party ∷ r .id ∷ r .symbol ∷ r .n1 ∷ r .n2 ∷ r .n3 ∷ r .n4 ∷ r .m1
+    ∷ r .m2
     ∷ r .time ∷ r .n5 ∷ []
 
 -- and a range for each, the fields that are not named unused

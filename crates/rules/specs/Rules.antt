@@ -1,5 +1,5 @@
--- The table of the grid: for each kind of row and of input the limits of its fields, those that are not named unused, and the
--- rules that are no range. Assumes nothing.
+-- The table of the grid: for each kind of row and of input the limits of its fields, those that are not named unused,
+-- and the rules that are no range. Assumes nothing.
 use mathlib.Core.Path.{_≡_, sym, ap}
 use mathlib.Core.Bool.{Bool, false, not, _&&_, _||_}
 use mathlib.Core.List.{List, [], _∷_}
@@ -8,7 +8,10 @@ use lib.Dec.{leb, eqb}
 use lib.ListN.{length, getD, List·getD-eq-default}
 use mir.Syntax.{w32, w64}
 use Rattle.laws.specs.Tests.{_⇔_}
-use Rattle.record.specs.Codes.{completed, kindAccount, kindBand, kindBroker, kindCash, kindCharge, kindCustomer, kindCustomerRate, kindFeed, kindLookup, kindLot, kindLotHistory, kindOrder, kindRequest, kindResult, kindSecurity, kindSettlement, kindSummary, kindTaxRate, kindTrade, kindTradeHistory, tms}
+use Rattle.record.specs.Codes.{completed, kindAccount, kindBand, kindBroker, kindCash, kindCharge, kindCustomer}
+use Rattle.record.specs.Codes.{kindCustomerRate, kindFeed, kindLookup, kindLot, kindLotHistory, kindOrder}
+use Rattle.record.specs.Codes.{kindRequest, kindResult, kindSecurity, kindSettlement, kindSummary, kindTaxRate}
+use Rattle.record.specs.Codes.{kindTrade, kindTradeHistory, tms}
 use Rattle.record.specs.declared.row.Row.{Row}
 use Rattle.rules.specs.Ranges.{
   _⋯_,
@@ -150,8 +153,9 @@ unfoldable pub charge : Row → Bool
 charge r =
     limited r chargeLimits
 
--- 9 trade: id; type, status; flags cash 1 + LIFO 2; party account; symbol; n1 shares; n2 bid; n3 trade price; n4 charge; m1 commission
--- and m2 tax; time. "A trade's n3 is zero exactly until it is completed; its m2 is zero until then and may stay so."
+-- 9 trade: id; type, status; flags cash 1 + LIFO 2; party account; symbol; n1 shares; n2 bid; n3 trade price; n4
+-- charge; m1 commission and m2 tax; time. "A trade's n3 is zero exactly until it is completed; its m2 is zero until
+-- then and may stay so."
 abbrev pub tradeLimits : List Range
 tradeLimits =
     only
@@ -238,7 +242,8 @@ unfoldable pub cash : Row → Bool
 cash r =
     limited r cashLimits && near w64 (r .m1) moneyMost
 
--- 33 order input: type; flags cash 1, LIFO 2, roll back 4; party; symbol; n1 shares; n2 bid (zero exactly for types 1 and 2); time
+-- 33 order input: type; flags cash 1, LIFO 2, roll back 4; party; symbol; n1 shares; n2 bid (zero exactly for types 1
+-- and 2); time
 abbrev pub orderInputLimits : List Range
 orderInputLimits =
     only

@@ -1,11 +1,11 @@
 -- A signed number at most so far from zero. Assumes nothing.
-use mathlib.Core.Path.{_≡_, refl, sym, ap, _∙_}
+use mathlib.Core.Path.{_≡_, refl}
 use mathlib.Core.Bool.{Bool, true, false, _||_}
 use Prim.Native.Nat.{ℕ, suc, _+_, _-_, _^_, _≤_, _<_}
 use native.Mathlib.Omega.{arith}
 use lib.Dec.{leb, ltb}
-use lib.IntN.{ℤ, natAbs}
-use borrow.Author.Tests.{ltb-true, ltb-false, lt-ltb, le-ltb, le-leb, lt-leb}
+use lib.IntN.{natAbs}
+use borrow.Author.Tests.{ltb-true, ltb-false, le-ltb, lt-leb}
 use mir.Syntax.{Width}
 use mir.Val.{toZ, bits, hbits}
 use mir.Facts.{toZ-pos}
@@ -20,7 +20,8 @@ unfolding near
 means-near w x most = means-le (natAbs (toZ w x)) most
 
 -- as the code has it: the bits are low, or the complement is
-module _ (w : Width) (x m : ℕ) (whole : 2 ^ bits w ≡ 2 ^ hbits w + 2 ^ hbits w) (hx : x < 2 ^ bits w) (hm : m < 2 ^ hbits w) where
+module _ (w : Width) (x m : ℕ) (whole : 2 ^ bits w ≡ 2 ^ hbits w + 2 ^ hbits w) (hx : x < 2 ^ bits w)
+    (hm : m < 2 ^ hbits w) where
   low : x < 2 ^ hbits w → (leb x m || ltb (2 ^ bits w - 1 - x) m) ≡ near w x m
   unfolding near
   low h = rw (toZ-pos w h, le-ltb (2 ^ bits w - 1 - x) m (omega arith)) (or-false (leb x m))

@@ -1,10 +1,10 @@
--- "A symbol is 1 to 7 of A-Z, 0-9, "." and "-", then zeros to byte 23. Byte 23 is the fence." The rule is local: the first byte
--- is a letter, each later one is zero or a letter that follows one, and the last is zero. `means-symbol`: that is what the
--- sentence says. Assumes nothing.
+-- "A symbol is 1 to 7 of A-Z, 0-9, "." and "-", then zeros to byte 23. Byte 23 is the fence." The rule is local: the
+-- first byte is a letter, each later one is zero or a letter that follows one, and the last is zero. `means-symbol`:
+-- that is what the sentence says. Assumes nothing.
 use mathlib.Core.Path.{_≡_, refl, sym, ap, subst, _∙_}
 use mathlib.Core.Bool.{Bool, true, false, not, _&&_, _||_, false≢true}
 use mathlib.Core.List.{List, [], _∷_}
-use Prim.Native.Nat.{ℕ, zero, suc, _+_, _≤_, _<_}
+use Prim.Native.Nat.{ℕ, zero, suc, _≤_, _<_}
 use native.Mathlib.Omega.{arith}
 use native.Mathlib.Nat.{le-of-suc-le-suc}
 use lib.ListN.{length, getD}
@@ -104,7 +104,8 @@ tail-of t a (b ∷ c ∷ cs) e =
     let f = and-right t (follows a b) (first-true (t && follows a b) b (c ∷ cs) e) in
     by-case (eqb b 0) (letter b) refl refl f (tail-of (t && follows a b) b (c ∷ cs) e)
   where
-    by-case : (u v : Bool) → eqb b 0 ≡ u → letter b ≡ v → (u || (v && not (eqb a 0))) ≡ true → Tail (c ∷ cs) → Tail (b ∷ c ∷ cs)
+    by-case : (u v : Bool) → eqb b 0 ≡ u → letter b ≡ v → (u || (v && not (eqb a 0))) ≡ true → Tail (c ∷ cs)
+        → Tail (b ∷ c ∷ cs)
     by-case true v p q h ih =
         let b0 = eqb-true b 0 p in
         none (b ∷ c ∷ cs) (omega arith) (all b0)
@@ -127,7 +128,8 @@ closed t a n [] e l h p z = absurd (omega arith)
 closed t a zero (b ∷ []) e l h p z = and-both t (eqb b 0) e (eq-eqb b 0 (z 0 (omega arith)))
 closed t a (suc n) (b ∷ []) e l h p z = absurd (omega arith)
 closed t a zero (b ∷ c ∷ cs) e l h p z =
-    closed (t && follows a b) b 0 (c ∷ cs) (and-both t (follows a b) e (follows-zero a b (z 0 (omega arith)))) (omega arith)
+    closed (t && follows a b) b 0 (c
+    ∷ cs) (and-both t (follows a b) e (follows-zero a b (z 0 (omega arith)))) (omega arith)
     (λ k. absurd (omega arith)) (λ i k. absurd (omega arith)) (λ i k. z (suc i) (omega arith))
 closed t a (suc n) (b ∷ c ∷ cs) e l h p z =
     let lb = p 0 (omega arith) in

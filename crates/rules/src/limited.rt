@@ -1,6 +1,5 @@
 // The fields of a row against a range for each, and signed numbers against a bound either way from zero.
 ghost use mathlib.Core.Path.{_≡_};
-ghost use mathlib.Core.Bool.{_&&_};
 ghost use Prim.Native.Nat.{_<_};
 ghost use mir.Syntax.{w32, w64};
 ghost use Rattle.laws.specs.Tests.{_⇔_};

@@ -1,6 +1,5 @@
 // The rule of a symbol, on its eight bytes as one number, the first byte highest.
 ghost use mathlib.Core.Path.{_≡_};
-ghost use mathlib.Core.Bool.{_&&_, _||_};
 ghost use Rattle.rules.specs.Symbol.{follows, letter, symbolOk};
 
 // A-Z, 0-9, "." and "-".

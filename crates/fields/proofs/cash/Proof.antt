@@ -10,7 +10,8 @@ returns : tie.Need-returns
 unfolding cash
 returns c =
     let d = c .before in
-    let start = c .before .before .before .before .before .before .before .before .before .before .before .before .before in
+    let half = c .before .before .before .before .before .before in
+    let start = half .before .before .before .before .before .before .before in
     let e : d .in-limits .result ≡ limited (start .args .r) cashLimits = d .in-limits .ensures in
     cc
 

@@ -10,7 +10,8 @@ returns : tie.Need-returns
 unfolding lotHistory
 returns c =
     let d = c .before .before .before in
-    let start = c .before .before .before .before .before .before .before .before .before .before .before .before .before .before in
+    let half = c .before .before .before .before .before .before .before in
+    let start = half .before .before .before .before .before .before .before in
     let e : d .in-limits .result ≡ limited (start .args .r) lotHistoryLimits = d .in-limits .ensures in
     cc
 

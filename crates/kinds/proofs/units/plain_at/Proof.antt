@@ -1,7 +1,7 @@
 -- Four bytes are below the half of 64 bits, so the number is read as it stands. Assumes nothing.
 use borrow.Author.Needs.{needs}
 use lib.IntN.{pos}
-use mathlib.Core.Path.{_≡_, _∙_, ap}
+use mathlib.Core.Path.{_∙_, ap}
 use mir.Facts.{toZ-pos}
 use mir.Syntax.{w64}
 use native.Mathlib.Omega.{arith}

@@ -10,12 +10,14 @@ use Rattle.record.proofs.bytes.signed64.Tie as tie
 
 sub-result-2 : tie.Need-sub-result-2
 sub-result-2 c =
-    rw (flip w64 (c .before .args .x) (18446744073709551615 - c .before .args .x) (omega arith) (omega arith) (omega arith))
+    let x = c .before .args .x in
+    rw (flip w64 x (18446744073709551615 - x) (omega arith) (omega arith) (omega arith))
     (sfits-toZ (c .before .fits .x))
 
 returns-2 : tie.Need-returns-2
 returns-2 c =
-    rw (flip w64 (c .before .args .x) (18446744073709551615 - c .before .args .x) (omega arith) (omega arith) (omega arith))
+    let x = c .before .args .x in
+    rw (flip w64 x (18446744073709551615 - x) (omega arith) (omega arith) (omega arith))
     (toZ-ofZ (sfits-toZ (c .before .fits .x)))
 
 pub signed64-spec : {M : Type 1} → statement M

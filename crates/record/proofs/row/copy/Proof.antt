@@ -1,5 +1,5 @@
 -- The invariant: the first i bytes are those of the source. The measure is what is left. Assumes nothing.
-use Prim.Native.Nat.{_+_, _-_, _≤_}
+use Prim.Native.Nat.{_-_, _≤_}
 use Rattle.laws.specs.Lists.{copy-step, copy-done}
 use lib.ListN.{length, length-set, take}
 use mathlib.Core.Path.{_≡_, refl}

@@ -6,7 +6,9 @@ use Rattle.record.proofs.key.Key.less.Tie as tie
 
 returns : tie.Need-returns
 returns c =
-    let a = c .before .before .before .before .before .before .before .before .before .before .before .before .before .before .before .before .before .before .before .before .before .before .before .before .before .before .before .before .before .before .before .before .before .before .args in
+    let c1 = c .before .before .before .before .before .before .before .before .before .before .before .before in
+    let c2 = c1 .before .before .before .before .before .before .before .before .before .before .before .before in
+    let a = c2 .before .before .before .before .before .before .before .before .before .before .args in
     let p : SizedKey (a .self) = omega (arith, c .before .struct-known33 .given) in
     let q : SizedKey (a .other) = omega (arith, c .struct-known34 .given) in
     less-is (a .self) (a .other) p q

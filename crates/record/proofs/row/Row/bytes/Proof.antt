@@ -1,4 +1,5 @@
--- The fields are stored in turn over 64 zeros; whatever stood there, that gives `encode`: `written-is`. Assumes nothing.
+-- The fields are stored in turn over 64 zeros; whatever stood there, that gives `encode`: `written-is`. Assumes
+-- nothing.
 use Rattle.record.specs.Grid.{written, written-is}
 use borrow.Author.Needs.{needs}
 use lib.ListN.{replicate}

@@ -7,11 +7,13 @@ use Rattle.record.proofs.row.Row.read.Tie as tie
 
 u32-at-requires-6 : tie.Need-u32-at-requires-6
 u32-at-requires-6 c κs =
-    omega (arith, c .before .before .before .before .before .before .before .before .before .before .before .before .before .before .pre)
+    let start = c .before .before .before .before .before .before .before in
+    omega (arith, start .before .before .before .before .before .before .before .pre)
 
 u32-at-requires-7 : tie.Need-u32-at-requires-7
 u32-at-requires-7 c κs =
-    omega (arith, c .before .before .before .before .before .before .before .before .before .before .before .before .before .before .before .pre)
+    let start = c .before .before .before .before .before .before .before in
+    omega (arith, start .before .before .before .before .before .before .before .before .pre)
 
 returns : tie.Need-returns
 unfolding decode
