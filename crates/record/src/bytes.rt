@@ -5,7 +5,7 @@ ghost use Prim.Native.Nat.{_+_, _<_, _≤_};
 ghost use lib.ListN.{length};
 ghost use mir.Syntax.{w32, w64};
 ghost use mir.Val.{ofZ, toZ};
-ghost use Rattle.record.specs.Bytes.{be, le};
+ghost use Rattle.record.specs.Bytes.{be, le, spelt};
 
 fn wide8(x: u8) -> u32
     ensures { λ r. ⌜ (r ≡ x) × (r < 256) ⌝ }
@@ -61,6 +61,28 @@ pub fn symbol_at(part: &[u8], at: usize) -> u64
 {
     let low = wide32(high_at(part, at + 4));
     wide32(high_at(part, at)) * 4294967296 + low
+}
+
+// The eight bytes of a symbol again, in their order.
+pub fn spelled(x: u64) -> [u8; 8]
+    ensures { λ r. ⌜ r ≡ spelt 8 x ⌝ }
+{
+    let x1 = x % 72057594037927936;
+    let x2 = x1 % 281474976710656;
+    let x3 = x2 % 1099511627776;
+    let x4 = x3 % 4294967296;
+    let x5 = x4 % 16777216;
+    let x6 = x5 % 65536;
+    [
+        (x / 72057594037927936) as u8,
+        (x1 / 281474976710656) as u8,
+        (x2 / 1099511627776) as u8,
+        (x3 / 4294967296) as u8,
+        (x4 / 16777216) as u8,
+        (x5 / 65536) as u8,
+        (x6 / 256) as u8,
+        (x6 % 256) as u8,
+    ]
 }
 
 // The signed number of 64 bits.

@@ -65,7 +65,7 @@ impl Grid {
 }
 
 // The number x in `width` bytes at a place.
-fn put(bytes: &mut [u8; 64], at: usize, width: usize, x: u64)
+fn put(bytes: &mut [u8; Grid::SIZE], at: usize, width: usize, x: u64)
     requires { ⌜ at + width ≤ 64 ⌝ }
     ensures { λ _. ⌜ now (bytes .exit) ≡ stored (now (bytes .entry)) at width x ⌝ }
 {
@@ -78,45 +78,40 @@ fn put(bytes: &mut [u8; 64], at: usize, width: usize, x: u64)
     }
 }
 
-fn put8(bytes: &mut [u8; 64], at: usize, x: u8)
+fn put8(bytes: &mut [u8; Grid::SIZE], at: usize, x: u8)
     requires { ⌜ at + 1 ≤ 64 ⌝ }
     ensures { λ _. ⌜ now (bytes .exit) ≡ stored (now (bytes .entry)) at 1 x ⌝ }
 {
     put(bytes, at, 1, x as u64);
 }
 
-fn put32(bytes: &mut [u8; 64], at: usize, x: u32)
+fn put32(bytes: &mut [u8; Grid::SIZE], at: usize, x: u32)
     requires { ⌜ at + 4 ≤ 64 ⌝ }
     ensures { λ _. ⌜ now (bytes .exit) ≡ stored (now (bytes .entry)) at 4 x ⌝ }
 {
     put(bytes, at, 4, x as u64);
 }
 
-fn put64(bytes: &mut [u8; 64], at: usize, x: u64)
+fn put64(bytes: &mut [u8; Grid::SIZE], at: usize, x: u64)
     requires { ⌜ at + 8 ≤ 64 ⌝ }
     ensures { λ _. ⌜ now (bytes .exit) ≡ stored (now (bytes .entry)) at 8 x ⌝ }
 {
     put(bytes, at, 8, x);
 }
 
-// The eight bytes of a symbol, the highest one first.
-fn put_symbol(bytes: &mut [u8; 64], x: u64)
+// The eight bytes of a symbol, in their order.
+fn put_symbol(bytes: &mut [u8; Grid::SIZE], x: u64)
     ensures { λ _. ⌜ now (bytes .exit) ≡ sets (now (bytes .entry)) 16 (spelt 8 x) ⌝ }
 {
-    let x1 = x % 72057594037927936;
-    let x2 = x1 % 281474976710656;
-    let x3 = x2 % 1099511627776;
-    let x4 = x3 % 4294967296;
-    let x5 = x4 % 16777216;
-    let x6 = x5 % 65536;
-    bytes[16] = (x / 72057594037927936) as u8;
-    bytes[17] = (x1 / 281474976710656) as u8;
-    bytes[18] = (x2 / 1099511627776) as u8;
-    bytes[19] = (x3 / 4294967296) as u8;
-    bytes[20] = (x4 / 16777216) as u8;
-    bytes[21] = (x5 / 65536) as u8;
-    bytes[22] = (x6 / 256) as u8;
-    bytes[23] = (x6 % 256) as u8;
+    let s = bytes::spelled(x);
+    bytes[Grid::SYMBOL] = s[0];
+    bytes[Grid::SYMBOL + 1] = s[1];
+    bytes[Grid::SYMBOL + 2] = s[2];
+    bytes[Grid::SYMBOL + 3] = s[3];
+    bytes[Grid::SYMBOL + 4] = s[4];
+    bytes[Grid::SYMBOL + 5] = s[5];
+    bytes[Grid::SYMBOL + 6] = s[6];
+    bytes[Grid::SYMBOL + 7] = s[7];
 }
 
 fn copy(to: &mut [u8], from: &[u8])
@@ -156,10 +151,10 @@ impl Row {
     }
 
     // The record of a row.
-    pub fn bytes(self) -> [u8; 64]
+    pub fn bytes(self) -> [u8; Grid::SIZE]
         ensures { λ r. ⌜ r ≡ encode self ⌝ }
     {
-        let mut a = [0u8; 64];
+        let mut a = [0u8; Grid::SIZE];
         put8(&mut a, Grid::KIND, self.kind);
         put8(&mut a, Grid::FORM, self.form);
         put8(&mut a, Grid::STATUS, self.status);

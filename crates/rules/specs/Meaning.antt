@@ -15,51 +15,13 @@ use Rattle.record.specs.declared.row.Row.{Row}
 use Rattle.rules.specs.Ranges.{Limited, means-limited, moneyMost, sharesMost}
 use Rattle.rules.specs.Signed.{means-near}
 use Rattle.rules.specs.Symbol.{Symbol, means-symbol}
-use Rattle.rules.specs.Rules.{
-  fits,
-  free,
-  freeLimits,
-  broker,
-  brokerLimits,
-  customer,
-  customerLimits,
-  taxRate,
-  taxRateLimits,
-  customerRate,
-  customerRateLimits,
-  account,
-  accountLimits,
-  security,
-  securityLimits,
-  band,
-  bandLimits,
-  charge,
-  chargeLimits,
-  trade,
-  tradeLimits,
-  request,
-  requestLimits,
-  tradeHistory,
-  tradeHistoryLimits,
-  lot,
-  lotLimits,
-  summary,
-  summaryLimits,
-  lotHistory,
-  lotHistoryLimits,
-  settlement,
-  settlementLimits,
-  cash,
-  cashLimits,
-  orderInput,
-  orderInputLimits,
-  resultInput,
-  resultInputLimits,
-  feedInput,
-  feedInputLimits,
-  lookupInput,
-  lookupInputLimits,
-}
+use Rattle.rules.specs.Rules.{fits, free, freeLimits, broker, brokerLimits, customer, customerLimits, taxRate}
+use Rattle.rules.specs.Rules.{taxRateLimits, customerRate, customerRateLimits, account, accountLimits}
+use Rattle.rules.specs.Rules.{security, securityLimits, band, bandLimits, charge, chargeLimits, trade}
+use Rattle.rules.specs.Rules.{tradeLimits, request, requestLimits, tradeHistory, tradeHistoryLimits, lot}
+use Rattle.rules.specs.Rules.{lotLimits, summary, summaryLimits, lotHistory, lotHistoryLimits, settlement}
+use Rattle.rules.specs.Rules.{settlementLimits, cash, cashLimits, orderInput, orderInputLimits, resultInput}
+use Rattle.rules.specs.Rules.{resultInputLimits, feedInput, feedInputLimits, lookupInput, lookupInputLimits}
 
 abbrev pub Free : Row → Type 0
 Free r = Limited r freeLimits

@@ -1,6 +1,5 @@
--- The eight stores are those of `spelt 8`, whose last byte is divided by one. Assumes nothing.
+-- The eight stores are those of the bytes that `spelled` gives. Assumes nothing.
 use borrow.Author.Needs.{needs}
-use native.Mathlib.Nat.{div-one}
 use Rattle.record.proofs.row.put_symbol.Statement.{statement}
 use Rattle.record.proofs.row.put_symbol.Tie as tie
 
@@ -8,6 +7,7 @@ pub put-symbol-spec : {M : Type 1} → statement M
 put-symbol-spec =
     tie.close
     (tie.spec
+    (λ c κs. search needs)
     (λ c. search needs)
     (λ c. search needs)
     (λ c. search needs)
@@ -24,4 +24,11 @@ put-symbol-spec =
     (λ c. search needs)
     (λ c. search needs)
     (λ c. search needs)
-    (λ c. rw div-one))
+    (λ c. search needs)
+    (λ c. search needs)
+    (λ c. search needs)
+    (λ c. search needs)
+    (λ c. search needs)
+    (λ c. search needs)
+    (λ c. search needs)
+    (λ c. rw (c .spelled .ensures)))
