@@ -6,7 +6,6 @@ ghost use Rattle.kinds.specs.Kinds.{orderInputOf, resultInputOf, feedInp
 use crate::limits::Limits;
 use crate::limits::R8;
 use crate::limits::R32;
-use crate::limits::R64;
 use crate::limits::Ranges;
 use crate::units;
 use crate::units::AccountNo;

@@ -40,7 +40,7 @@ pub record Reply : Type 0 where
 unfoldable pub refusalArea : ℕ → Status → List ℕ
 refusalArea n s = replicate 60 0 ++ bytesOf 4 (ofZ w32 (number s)) ++ replicate (n - recordSize) 0
 
-abbrev isDone : Status → Bool
+abbrev pub isDone : Status → Bool
 isDone Done = true
 isDone BadLength = false
 isDone BadBook = false
@@ -60,7 +60,7 @@ isDone ResultNoRate = false
 isDone FeedNoSecurity = false
 isDone LookupNoTrade = false
 
-abbrev either : Bool → List ℕ → List ℕ → List ℕ
+abbrev pub either : Bool → List ℕ → List ℕ → List ℕ
 either true a b = a
 either false a b = b
 
@@ -71,7 +71,7 @@ replied o b answer = record {
   book = either (isDone (o .status)) (bytes (o .rows)) b;
 }
 
-abbrev choose : Bool → Reply → Reply → Reply
+abbrev pub choose : Bool → Reply → Reply → Reply
 choose true a b = a
 choose false a b = b
 

@@ -1,5 +1,6 @@
 pub mod Status
 pub mod Rows
+pub mod RowsLaws
 pub mod Names
 pub mod Flags
 pub mod Sound
@@ -14,6 +15,7 @@ pub mod Order
 pub mod Feed
 pub mod Lookup
 pub mod Call
+pub mod Unposted
 pub mod Tally
 pub mod Evaluate
 pub mod Sample

@@ -1,0 +1,96 @@
+-- Calls that leave every byte of the book: one that is refused, a lookup, and an order with roll back, whatever they are
+-- given. Assumes nothing.
+use mathlib.Core.Path.{_≡_, refl, ap, _∙_}
+use mathlib.Core.Bool.{Bool, true, false, _&&_}
+use mathlib.Core.List.{List}
+use Prim.Native.Nat.{ℕ, _*_}
+use lib.Dec.{eqb}
+use lib.ListN.{length}
+use Rattle.laws.specs.Search.{every}
+use Rattle.record.specs.Bytes.{Bytes}
+use Rattle.record.specs.Grid.{decode}
+use Rattle.record.specs.declared.row.Row.{Row}
+use Rattle.rules.specs.Rules.{lookupInput, orderInput}
+use Rattle.model.specs.Call.{choose, either, isDone, lookupCall, mostInputs, orderCall, refusalArea, replied, shell}
+use Rattle.model.specs.Flags.{rollBack}
+use Rattle.model.specs.Lookup.{looked, lookup}
+use Rattle.model.specs.Names.{aTrade}
+use Rattle.model.specs.Order as order
+use Rattle.model.specs.Plan.{Outcome, Plan, accepted, pick, post, refuse, refused}
+use Rattle.model.specs.Rows.{bytes, mostRecords, recordSize, rows, there, wholeRecords}
+use Rattle.model.specs.RowsLaws.{bytes-rows}
+use Rattle.model.specs.Sound.{sound}
+use Rattle.model.specs.declared.Status.the-variants.{BadBook, BadInput, BadLength, LookupNoTrade, Unsound}
+
+-- "A refusal leaves the book as found; all answer bytes are zero but the status"
+pub refusal-leaves : (o : Outcome) (b answer : List ℕ) → isDone (o .status) ≡ false
+    → (replied o b answer .book ≡ b) × (replied o b answer .answer ≡ refusalArea (length answer) (o .status))
+unfolding replied
+refusal-leaves o b answer e = (
+  ap (λ (t : Bool). either t (bytes (o .rows)) b) e,
+  ap (λ (t : Bool). either t (bytes (o .answer)) (refusalArea (length answer) (o .status))) e,
+)
+
+-- a decision that keeps the rows keeps the book
+module _ (b answer : List ℕ) (bs : Bytes b) (decide : List Row → Outcome) (same : decide (rows b) .rows ≡ rows b) where
+  -- the bytes are those of the same rows, or nothing was written
+  done-or-not : (t : Bool) (rs : List Row) → rs ≡ rows b → wholeRecords mostRecords (length b) ≡ true
+      → either t (bytes rs) b ≡ b
+  done-or-not true rs e w = ap bytes e ∙ bytes-rows mostRecords b w bs
+  done-or-not false rs e w = refl
+
+  reply-keeps : (o : Outcome) → o .rows ≡ rows b → wholeRecords mostRecords (length b) ≡ true
+      → replied o b answer .book ≡ b
+  unfolding replied
+  reply-keeps o e w = done-or-not (isDone (o .status)) (o .rows) e w
+
+  pub shell-keeps : (lengths inputs : Bool) → shell lengths inputs decide b answer .book ≡ b
+  unfolding shell replied
+  shell-keeps lengths inputs = go lengths (wholeRecords mostRecords (length b)) refl (sound (rows b)) inputs
+    where
+      go : (l w : Bool) → wholeRecords mostRecords (length b) ≡ w → (s i : Bool)
+          → choose l
+          (replied
+          (pick w (pick s (pick i (decide (rows b)) (refused BadInput (rows b))) (refused Unsound (rows b)))
+          (refused BadBook (rows b)))
+          b
+          answer)
+          (record { status = BadLength; answer = answer; book = b })
+          .book
+          ≡ b
+      go false w e s i = refl
+      go true false e s i = refl
+      go true true e false i = refl
+      go true true e true false = refl
+      go true true e true true = reply-keeps (decide (rows b)) same e
+
+looks-only : (t : Bool) (rs inputs : List Row) → pick t (accepted (looked rs inputs) rs) (refused LookupNoTrade rs) .rows ≡ rs
+looks-only true rs inputs = refl
+looks-only false rs inputs = refl
+
+-- a lookup leaves every byte of the book
+pub lookup-keeps : (b input answer : List ℕ) → Bytes b → lookupCall b input answer .book ≡ b
+unfolding lookupCall lookup
+lookup-keeps b input answer bs =
+    let is = rows input in
+    shell-keeps b answer bs (λ rs. lookup rs is)
+    (looks-only (every (λ (i : Row). there (aTrade (i .id)) (rows b)) is) (rows b) is)
+    (wholeRecords mostInputs (length input) && eqb (length answer) (2 * length input))
+    (every lookupInput is)
+
+rolled-back : (rs : List Row) (input : Row) (number : ℕ) (p : Plan) → rollBack (input .flags) ≡ true
+    → order.finish rs input number p .rows ≡ rs
+unfolding order.finish
+rolled-back rs input number (refuse s) e = refl
+rolled-back rs input number (post p) e = rw e
+
+-- and so does an order with roll back
+pub roll-back-keeps : (b input answer : List ℕ) → Bytes b → rollBack (decode input .flags) ≡ true
+    → orderCall b input answer .book ≡ b
+unfolding orderCall order.order
+roll-back-keeps b input answer bs e =
+    let i = decode input in
+    let v = order.view (rows b) i in
+    shell-keeps b answer bs (λ rs. order.order rs i) (rolled-back (rows b) i (v .number) (order.plan i v) e)
+    (eqb (length input) recordSize && eqb (length answer) recordSize)
+    (orderInput i)
