@@ -6,7 +6,7 @@ use Rattle.standing.proofs.free.Tie as tie
 
 returns : tie.Need-returns
 unfolding free
-returns c = cc
+returns c = c .in-limits .ensures
 
 pub free-spec : {M : Type 1} → statement M
 free-spec = tie.close (tie.spec (λ c κs. search needs) returns)
