@@ -86,7 +86,8 @@ table =
     (pos 0 ∷ pos 19_000 ∷ pos 1_800 ∷ pos 338_700 ∷ pos 1_338_700 ∷ pos 30 ∷ pos 0 ∷ pos 0 ∷ pos 30 ∷ pos 1 ∷ pos 1
     ∷ []))
     ∷ (aResult (selling 1 150 6) (resultAt 3_000) gives
-    (pos 0 ∷ pos 25_000 ∷ pos 2_250 ∷ pos 422_250 ∷ pos 1_422_250 ∷ pos 0 ∷ pos 0 ∷ pos 0 ∷ pos 0 ∷ pos 0 ∷ pos 0 ∷ []))
+    (pos 0 ∷ pos 25_000 ∷ pos 2_250 ∷ pos 422_250 ∷ pos 1_422_250 ∷ pos 0 ∷ pos 0 ∷ pos 0 ∷ pos 0
+    ∷ pos 0 ∷ pos 0 ∷ []))
     ∷ (aResult (selling 1 200 8) (resultAt 3_000) gives
     (pos 0 ∷ pos 25_000 ∷ pos 3_000 ∷ pos 571_500 ∷ pos 1_571_500 ∷ pos 0 ∷ pos 0 ∷ minus 50 ∷ minus 50 ∷ pos 1
     ∷ pos 1 ∷ []))
@@ -117,6 +118,7 @@ figures-hold = refl
 
 -- the tally picture
 pub tally-picture : tally (selling 1 120 6)
-    ≡ (0 ∷ 0 ∷ 2 ∷ []) ∷ (0 ∷ 1 ∷ 0 ∷ []) ∷ (0 ∷ 0 ∷ 0 ∷ []) ∷ (0 ∷ 0 ∷ 0 ∷ []) ∷ (0 ∷ 0 ∷ 0 ∷ []) ∷ []
+    ≡ (0 ∷ 0 ∷ 2 ∷ []) ∷ (0 ∷ 1 ∷ 0 ∷ []) ∷ (0 ∷ 0 ∷ 0 ∷ []) ∷ (0 ∷ 0 ∷ 0 ∷ [])
+    ∷ (0 ∷ 0 ∷ 0 ∷ []) ∷ []
 unfolding tallyOpened
 tally-picture = refl

@@ -123,7 +123,9 @@ entryAt price = new (kind ≔ kindFeed ∷ symbol ≔ abc ∷ n1 ≔ price ∷ n
 
 abbrev pub orderOf : ℕ → ℕ → ℕ → ℕ → Row
 orderOf type owner sym shares =
-    new (kind ≔ kindOrder ∷ form ≔ type ∷ flags ≔ 1 ∷ party ≔ owner ∷ symbol ≔ sym ∷ n1 ≔ shares ∷ when ≔ 1_000 ∷ [])
+    new (
+    kind ≔ kindOrder ∷ form ≔ type ∷ flags ≔ 1 ∷ party ≔ owner ∷ symbol ≔ sym ∷ n1 ≔ shares
+    ∷ when ≔ 1_000 ∷ [])
 
 abbrev pub orderFor : ℕ → ℕ → Row
 orderFor sym shares = orderOf tmb 1 sym shares
@@ -143,7 +145,9 @@ lastNumber =
     ∷ n2 ≔ 400
     ∷ [])
     ∷ new (kind ≔ kindTradeHistory ∷ status ≔ pending ∷ id ≔ tradeNumber .high ∷ [])
-    ∷ new (kind ≔ kindRequest ∷ form ≔ tlb ∷ party ≔ 1 ∷ id ≔ tradeNumber .high ∷ symbol ≔ abc ∷ n1 ≔ 5 ∷ n2 ≔ 400 ∷ [])
+    ∷ new (
+    kind ≔ kindRequest ∷ form ≔ tlb ∷ party ≔ 1 ∷ id ≔ tradeNumber .high ∷ symbol ≔ abc ∷ n1 ≔ 5
+    ∷ n2 ≔ 400 ∷ [])
     ∷ []
 
 -- the broker's trades and the volume of "ABC" at their ends

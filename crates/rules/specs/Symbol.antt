@@ -123,7 +123,8 @@ follows-letter : (a b : ℕ) → letter b ≡ true → (a ≡ 0 → ⊥) → fol
 follows-letter a b e n = rw (ne-eqb b 0 (no-letter b e), e, ne-eqb a 0 n)
 
 closed : (t : Bool) (a n : ℕ) (bs : List ℕ) → t ≡ true → n < length bs → (0 < n → a ≡ 0 → ⊥)
-    → ((i : ℕ) → i < n → letter (getD bs i 0) ≡ true) → ((i : ℕ) → n ≤ i → getD bs i 0 ≡ 0) → closedFrom t a bs ≡ true
+    → ((i : ℕ) → i < n → letter (getD bs i 0) ≡ true) → ((i : ℕ) → n ≤ i → getD bs i 0 ≡ 0)
+    → closedFrom t a bs ≡ true
 closed t a n [] e l h p z = absurd (omega arith)
 closed t a zero (b ∷ []) e l h p z = and-both t (eqb b 0) e (eq-eqb b 0 (z 0 (omega arith)))
 closed t a (suc n) (b ∷ []) e l h p z = absurd (omega arith)
