@@ -3,6 +3,8 @@ pub mod Numbers
 pub mod Digits
 pub mod Lists
 pub mod Search
+pub mod Walk
+pub mod Chain
 pub mod Sort
 pub mod Change
 pub mod Chunk

@@ -17,6 +17,14 @@ module _ {A : Type 0} where
   the p d [] = d
   the p d (x ∷ l) = cond (p x) x (the p d l)
 
+  -- the place of the first that passes, places counted from i; the end where none does
+  unfoldable pub seek : (A → Bool) → ℕ → List A → ℕ
+  seek p i [] = i
+  seek p i (x ∷ l) = cond (p x) i (seek p (i + 1) l)
+
+  abbrev pub place : (A → Bool) → List A → ℕ
+  place p l = seek p 0 l
+
   -- every one passes
   unfoldable pub every : (A → Bool) → List A → Bool
   every p [] = true

@@ -47,7 +47,7 @@ means-and {a} {b} p q = record {
   holds = λ h. and-both a b (p .holds (h .0)) (q .holds (h .1));
 }
 
-or-cases : (a b : Bool) → (a || b) ≡ true → (a ≡ true) ⊎ (b ≡ true)
+pub or-cases : (a b : Bool) → (a || b) ≡ true → (a ≡ true) ⊎ (b ≡ true)
 or-cases true b e = inl refl
 or-cases false b e = inr e
 

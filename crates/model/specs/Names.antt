@@ -7,7 +7,7 @@ use Rattle.record.specs.Codes.{kindSecurity, kindSettlement, kindSummary, kindT
 use Rattle.record.specs.declared.row.Row.{Row}
 use Rattle.record.specs.declared.key.Key.{Key}
 
-abbrev key : ℕ → ℕ → ℕ → ℕ → ℕ → ℕ → Key
+abbrev pub key : ℕ → ℕ → ℕ → ℕ → ℕ → ℕ → Key
 key k f s p i y = record {
   kind = k;
   form = f;
@@ -20,10 +20,10 @@ key k f s p i y = record {
   m2 = 0;
 }
 
-abbrev byParty : ℕ → ℕ → Key
+abbrev pub byParty : ℕ → ℕ → Key
 byParty k p = key k 0 0 p 0 0
 
-abbrev byId : ℕ → ℕ → Key
+abbrev pub byId : ℕ → ℕ → Key
 byId k i = key k 0 0 0 i 0
 
 abbrev pub aBroker : ℕ → Key

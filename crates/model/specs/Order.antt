@@ -21,8 +21,11 @@ use Rattle.model.specs.Rows.{found, is}
 use Rattle.model.specs.Sound.{ratesOf}
 
 -- "number = largest trade number + 1, or 1"
+abbrev pub tradeId : Row → ℕ
+tradeId r = cond (is kindTrade r) (r .id) 0
+
 unfoldable pub nextNumber : List Row → ℕ
-nextNumber rs = largest (λ r. cond (is kindTrade r) (r .id) 0) rs + 1
+nextNumber rs = largest tradeId rs + 1
 
 -- all that an order reads, but for the room
 pub record View : Type 0 where

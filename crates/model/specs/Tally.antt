@@ -16,7 +16,7 @@ use Rattle.model.specs.Sound.{sound}
 abbrev tallyRecords : ℕ
 tallyRecords = 1_024
 
-abbrev inSquare : ℕ → ℕ → Row → Bool
+abbrev pub inSquare : ℕ → ℕ → Row → Bool
 inSquare form status r = is kindTrade r && eqb (r .form) form && eqb (r .status) status
 
 unfoldable pub tallied : List Row → ℕ → List ℕ

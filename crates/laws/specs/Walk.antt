@@ -1,0 +1,110 @@
+-- What a walk over a list knows at place i: what is left there, and the place that it comes to when it skips what does
+-- not concern it. Assumes nothing.
+use mathlib.Core.Path.{_≡_, refl, sym, ap, _∙_}
+use mathlib.Core.Bool.{Bool, true, false, cond, false≢true}
+use mathlib.Core.List.{List, [], _∷_}
+use Prim.Native.Nat.{ℕ, suc, _+_, _≤_, _<_}
+use native.Mathlib.Numerals.{add-one}
+use native.Mathlib.Nat.{add-zero}
+use native.Mathlib.Omega.{arith}
+use lib.ListN.{length, drop, getD, drop-of-length-le, length-drop}
+use lib.Seq.{drop-cons, drop-drop, getD-drop}
+use Rattle.laws.specs.Search.{seek}
+
+module _ {A : Type 0} where
+  pub left-next : (l : List A) (i : ℕ) (d : A) → i < length l → drop i l ≡ getD l i d ∷ drop (i + 1) l
+  left-next l i d h = rw add-one (drop-cons l i d h)
+
+  pub left-none : (l : List A) (i : ℕ) → length l ≤ i → drop i l ≡ []
+  left-none l i h = drop-of-length-le l {i = i} h
+
+  -- ---- a search
+  pub seek-end : (q : A → Bool) (i : ℕ) (l : List A) → length l ≤ i → seek q i (drop i l) ≡ i
+  unfolding seek
+  seek-end q i l h = rw (left-none l i h)
+
+  pub seek-here : (q : A → Bool) (i : ℕ) (l : List A) (d : A) → i < length l → q (getD l i d) ≡ true
+      → seek q i (drop i l) ≡ i
+  unfolding seek
+  seek-here q i l d h e = rw (left-next l i d h, e)
+
+  pub seek-later : (q : A → Bool) (i : ℕ) (l : List A) (d : A) → i < length l → q (getD l i d) ≡ false
+      → seek q i (drop i l) ≡ seek q (i + 1) (drop (i + 1) l)
+  unfolding seek
+  seek-later q i l d h e = rw (left-next l i d h, e)
+
+  seek-within : (q : A → Bool) (m : List A) (i : ℕ) → (i ≤ seek q i m) × (seek q i m ≤ i + length m)
+  unfolding seek
+  seek-within q [] i = (omega arith, omega arith)
+  seek-within q (x ∷ m) i = go (seek-within q m (i + 1)) (q x) refl
+    where
+      go : (i + 1 ≤ seek q (i + 1) m) × (seek q (i + 1) m ≤ i + 1 + length m) → (t : Bool) → q x ≡ t
+          → (i ≤ seek q i (x ∷ m)) × (seek q i (x ∷ m) ≤ i + suc (length m))
+      go ih true e = rw e (omega arith, omega arith)
+      go ih false e = let a = ih .0 in let b = ih .1 in rw e (omega arith, omega arith)
+
+  head : (i : ℕ) (l m : List A) (x d : A) → drop i l ≡ x ∷ m → getD l i d ≡ x
+  head i l m x d e =
+      let a : getD (drop i l) 0 d ≡ getD l (i + 0) d = getD-drop i l 0 d in
+      rw add-zero at (sym a) ∙ rw e
+
+  tail : (i : ℕ) (l m : List A) (x : A) → drop i l ≡ x ∷ m → drop (i + 1) l ≡ m
+  tail i l m x e = sym (drop-drop 1 i l) ∙ rw e
+
+  module _ (q : A → Bool) (d : A) (l : List A) where
+    sought : (m : List A) (i : ℕ) → drop i l ≡ m → seek q i m < length l → q (getD l (seek q i m) d) ≡ true
+    unfolding seek
+    sought [] i e h = absurd (let z : length (drop i l) ≡ 0 = ap length e in let y = length-drop i l in omega arith)
+    sought (x ∷ m) i e h = go (sought m (i + 1) (tail i l m x e)) (q x) refl
+      where
+        go : (seek q (i + 1) m < length l → q (getD l (seek q (i + 1) m) d) ≡ true) → (t : Bool) → q x ≡ t
+            → q (getD l (seek q i (x ∷ m)) d) ≡ true
+        go ih true k = rw k (rw (head i l m x d e) k)
+        go ih false k = rw k (ih (rw k at h))
+
+  module _ (p q : A → Bool) (l : List A) (imp : (r : A) → p r ≡ true → q r ≡ true) where
+    skipped : (m : List A) (i : ℕ) → drop i l ≡ m → seek p i m ≡ seek p (seek q i m) (drop (seek q i m) l)
+    unfolding seek
+    skipped [] i e = rw e
+    skipped (x ∷ m) i e = go (skipped m (i + 1) (tail i l m x e)) (q x) (p x) refl refl
+      where
+        go : seek p (i + 1) m ≡ seek p (seek q (i + 1) m) (drop (seek q (i + 1) m) l) → (t u : Bool) → q x ≡ t
+            → p x ≡ u → seek p i (x ∷ m) ≡ seek p (seek q i (x ∷ m)) (drop (seek q i (x ∷ m)) l)
+        go ih true u k n = rw (k, e)
+        go ih false false k n = rw (k, n) ih
+        go ih false true k n = absurd (false≢true (sym k ∙ imp x n))
+
+  module _ {M : Type 0} (F : List A → M) (q : A → Bool) (l : List A)
+      (none : (x : A) (m : List A) → q x ≡ false → F (x ∷ m) ≡ F m) where
+    passed : (m : List A) (i : ℕ) → drop i l ≡ m → F m ≡ F (drop (seek q i m) l)
+    unfolding seek
+    passed [] i e = rw e
+    passed (x ∷ m) i e = go (passed m (i + 1) (tail i l m x e)) (q x) refl
+      where
+        go : F m ≡ F (drop (seek q (i + 1) m) l) → (t : Bool) → q x ≡ t → F (x ∷ m) ≡ F (drop (seek q i (x ∷ m)) l)
+        go ih true k = rw (k, e)
+        go ih false k = rw k (none x m k ∙ ih)
+
+  -- ---- the place that is sought from i on
+  abbrev pub from : (A → Bool) → List A → ℕ → ℕ
+  from q l i = seek q i (drop i l)
+
+  module _ (q : A → Bool) (l : List A) (i : ℕ) where
+    pub from-low : i ≤ from q l i
+    from-low = seek-within q (drop i l) i .0
+
+    pub from-high : i ≤ length l → from q l i ≤ length l
+    from-high h = let a = seek-within q (drop i l) i .1 in let b = length-drop i l in omega arith
+
+    pub from-holds : (d : A) → from q l i < length l → q (getD l (from q l i) d) ≡ true
+    from-holds d h = sought q d l (drop i l) i refl h
+
+    -- a search for p may go on at the next q where p implies q
+    pub from-skips : (p : A → Bool) → ((r : A) → p r ≡ true → q r ≡ true)
+        → seek p i (drop i l) ≡ seek p (from q l i) (drop (from q l i) l)
+    from-skips p imp = skipped p q l imp (drop i l) i refl
+
+    -- and so may what gathers nothing of the others
+    pub from-passes : {M : Type 0} (F : List A → M) → ((x : A) (m : List A) → q x ≡ false → F (x ∷ m) ≡ F m)
+        → F (drop i l) ≡ F (drop (from q l i) l)
+    from-passes F none = passed F q l none (drop i l) i refl

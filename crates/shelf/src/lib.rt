@@ -1,0 +1,3 @@
+// The loops over a book that is lent as bytes: the row at a place, the first row of a key, free places, a row put or
+// added. A place past the end holds nothing.
+pub mod place;

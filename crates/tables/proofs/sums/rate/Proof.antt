@@ -1,0 +1,18 @@
+-- The rate that the row names, of the customer alone. Assumes nothing.
+use native.Mathlib.Omega.{arith}
+use Rattle.tables.specs.Sums.{rate-no, rate-yes}
+use borrow.Author.Needs.{needs}
+use Rattle.tables.proofs.sums.rate.Statement.{statement}
+use Rattle.tables.proofs.sums.rate.Tie as tie
+
+returns : tie.Need-returns
+returns c =
+    let yes = c .before .before .if1 in
+    let row = c .before .before .before .before .before .before .args .row in
+    (rate-yes _ _ row (yes .taken) (c .before .found .ensures) (c .wide32 .ensures .0), c .wide32 .ensures .1)
+
+returns-2 : tie.Need-returns-2
+returns-2 c = (rate-no _ _ (c .before .before .before .before .args .row) (c .if1 .left), omega arith)
+
+pub rate-spec : {M : Type 1} → statement M
+rate-spec = tie.close (tie.spec (λ c κs. search needs) (λ c κs. search needs) returns returns-2)

@@ -1,0 +1,43 @@
+-- The invariant: the places from i on are in both tables. Each turn puts one place in front of its bucket's chain. The
+-- measure is i. Assumes nothing.
+use borrow.Author.Needs.{needs}
+use Rattle.tables.specs.Bucket.{keyBucket, lotBucket}
+use Rattle.tables.proofs.table.build.Statement.{statement}
+use Rattle.tables.specs.Table.{Indexed, tables}
+use Rattle.tables.proofs.table.build.Tie as tie
+
+abbrev Inv-loop : tie.InvT-loop
+Inv-loop book keys₀ lots₀ i₀ keys lots i = Indexed keyBucket book keys i × Indexed lotBucket book lots i
+
+abbrev μ-loop : tie.MeasureT-loop
+μ-loop book keys₀ lots₀ i₀ keys lots i = i
+
+pub build-spec : {M : Type 1} → statement M
+build-spec =
+    tie.close
+    (tie.spec
+    Inv-loop
+    μ-loop
+    (λ c. search (needs, tables))
+    (λ c. search (needs, tables))
+    (λ c. search (needs, tables))
+    (λ c κs. search (needs, tables))
+    (λ c κs. search (needs, tables))
+    (λ c. search (needs, tables))
+    (λ c. search (needs, tables))
+    (λ c. search (needs, tables))
+    (λ c. search (needs, tables))
+    (λ c κs. search (needs, tables))
+    (λ c. search (needs, tables))
+    (λ c. search (needs, tables))
+    (λ c κs. search (needs, tables))
+    (λ c. search (needs, tables))
+    (λ c. search (needs, tables))
+    (λ c. search (needs, tables))
+    (λ c. search (needs, tables))
+    (λ c κs. search (needs, tables))
+    (λ c. search (needs, tables))
+    (λ c. search (needs, tables))
+    (λ c. search (needs, tables))
+    (λ c. search (needs, tables))
+    (λ c. search (needs, tables)))

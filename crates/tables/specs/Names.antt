@@ -1,0 +1,127 @@
+-- The rows of a key that is a number, a symbol or both, by the fields that tell them. Assumes nothing.
+use mathlib.Core.Path.{_≡_, refl, sym, subst, _∙_}
+use mathlib.Core.Bool.{Bool, true, false, _&&_, _||_}
+use mathlib.Core.List.{List, [], _∷_}
+use mathlib.Core.Logic.{⊎-elim}
+use Prim.Native.Nat.{ℕ}
+use lib.Dec.{eqb}
+use borrow.Author.Tests.{eqb-true}
+use Rattle.laws.specs.Tests.{or-cases}
+use Rattle.record.specs.Codes.{kindAccount, kindBroker, kindCash, kindCustomer, kindRequest, kindSecurity}
+use Rattle.record.specs.Codes.{kindSettlement, kindSummary, kindTaxRate, kindTrade, kindTradeHistory}
+use Rattle.record.specs.Key.{among, keyOf, sameKey}
+use Rattle.record.specs.declared.key.Key.{Key}
+use Rattle.record.specs.declared.row.Row.{Row}
+use Rattle.model.specs.Names.{aHistory, aSecurity, aSummary, byId, byParty}
+use Rattle.model.specs.Rows.{hasKey, is}
+
+abbrev pub ofId : ℕ → ℕ → Row → Bool
+ofId kind id r = is kind r && eqb (r .id) id
+
+abbrev pub ofParty : ℕ → ℕ → Row → Bool
+ofParty kind party r = is kind r && eqb (r .party) party
+
+abbrev pub ofSymbol : ℕ → ℕ → Row → Bool
+ofSymbol kind symbol r = is kind r && eqb (r .symbol) symbol
+
+abbrev pub idKinds : List ℕ
+idKinds = kindTrade ∷ kindRequest ∷ kindSettlement ∷ kindCash ∷ []
+
+abbrev pub partyKinds : List ℕ
+partyKinds = kindBroker ∷ kindCustomer ∷ kindTaxRate ∷ kindAccount ∷ []
+
+-- what holds at each of four kinds holds at one that is among them
+pub of-four : (P : ℕ → Type 0) (k a b c d : ℕ) → P a → P b → P c → P d → among k (a ∷ b ∷ c ∷ d ∷ []) ≡ true → P k
+of-four P k a b c d pa pb pc pd e =
+    ⊎-elim
+    (λ abc. ⊎-elim
+    (λ ab. ⊎-elim (λ x. at a pa x) (λ x. at b pb x) (or-cases (eqb k a) (eqb k b) ab))
+    (λ x. at c pc x)
+    (or-cases (eqb k a || eqb k b) (eqb k c) abc))
+    (λ x. at d pd x)
+    (or-cases (eqb k a || eqb k b || eqb k c) (eqb k d) e)
+  where
+    at : (n : ℕ) → P n → eqb k n ≡ true → P k
+    at n p x = subst P (sym (eqb-true k n x)) p
+
+-- a row has a key where its kind is the key's and what is left of the key fits
+of-kind : (r : Row) (k : Key) (x : Bool) → (r .kind ≡ k .kind → sameKey (keyOf r) k ≡ x)
+    → hasKey k r ≡ (is (k .kind) r && x)
+unfolding hasKey sameKey keyOf
+of-kind r k x h = go (eqb (r .kind) (k .kind)) refl
+  where
+    go : (t : Bool) → eqb (r .kind) (k .kind) ≡ t → hasKey k r ≡ (is (k .kind) r && x)
+    go true e = h (eqb-true (r .kind) (k .kind) e) ∙ rw e
+    go false e = rw e
+
+-- tests that hold by themselves fall away
+last-two : (a : Bool) → (a && true && true) ≡ a
+last-two true = refl
+last-two false = refl
+
+last-three : (a : Bool) → (a && true && true && true) ≡ a
+last-three true = refl
+last-three false = refl
+
+last-four : (a : Bool) → (a && true && true && true && true) ≡ a
+last-four true = refl
+last-four false = refl
+
+spread : (k a b : Bool) → (k && (a && b)) ≡ (k && a && b)
+spread true a b = refl
+spread false a b = refl
+
+abbrev ById : ℕ → Type 0
+ById k = (i : ℕ) (r : Row) → hasKey (byId k i) r ≡ ofId k i r
+
+pub by-id : (k : ℕ) → among k idKinds ≡ true → ById k
+unfolding sameKey keyOf
+by-id k e =
+    of-four ById k kindTrade kindRequest kindSettlement kindCash
+    (λ i r. of-kind r (byId kindTrade i) (eqb (r .id) i) (λ h. rw h (last-three (eqb (r .id) i))))
+    (λ i r. of-kind r (byId kindRequest i) (eqb (r .id) i) (λ h. rw h (last-three (eqb (r .id) i))))
+    (λ i r. of-kind r (byId kindSettlement i) (eqb (r .id) i) (λ h. rw h (last-three (eqb (r .id) i))))
+    (λ i r. of-kind r (byId kindCash i) (eqb (r .id) i) (λ h. rw h (last-three (eqb (r .id) i))))
+    e
+
+abbrev ByParty : ℕ → Type 0
+ByParty k = (p : ℕ) (r : Row) → hasKey (byParty k p) r ≡ ofParty k p r
+
+pub by-party : (k : ℕ) → among k partyKinds ≡ true → ByParty k
+unfolding sameKey keyOf
+by-party k e =
+    of-four ByParty k kindBroker kindCustomer kindTaxRate kindAccount
+    (λ p r. of-kind r (byParty kindBroker p) (eqb (r .party) p) (λ h. rw h (last-four (eqb (r .party) p))))
+    (λ p r. of-kind r (byParty kindCustomer p) (eqb (r .party) p) (λ h. rw h (last-four (eqb (r .party) p))))
+    (λ p r. of-kind r (byParty kindTaxRate p) (eqb (r .party) p) (λ h. rw h (last-four (eqb (r .party) p))))
+    (λ p r. of-kind r (byParty kindAccount p) (eqb (r .party) p) (λ h. rw h (last-four (eqb (r .party) p))))
+    e
+
+pub by-symbol : (s : ℕ) (r : Row) → hasKey (aSecurity s) r ≡ ofSymbol kindSecurity s r
+unfolding sameKey keyOf
+by-symbol s r = of-kind r (aSecurity s) (eqb (r .symbol) s) (λ h. rw h (last-two (eqb (r .symbol) s)))
+
+pub by-holder : (a s : ℕ) (r : Row) → hasKey (aSummary a s) r ≡ (ofParty kindSummary a r && eqb (r .symbol) s)
+unfolding sameKey keyOf
+by-holder a s r =
+    of-kind r (aSummary a s) (eqb (r .party) a && eqb (r .symbol) s)
+    (λ h. rw h (both (eqb (r .party) a) (eqb (r .symbol) s)))
+    ∙ spread (is kindSummary r) (eqb (r .party) a) (eqb (r .symbol) s)
+  where
+    both : (a b : Bool) → (a && true && b && true && true) ≡ (a && b)
+    both true true = refl
+    both true false = refl
+    both false b = refl
+
+pub by-status : (i s : ℕ) (r : Row) → hasKey (aHistory i s) r ≡ (ofId kindTradeHistory i r && eqb (r .status) s)
+unfolding sameKey keyOf
+by-status i s r =
+    of-kind r (aHistory i s) (eqb (r .id) i && eqb (r .status) s)
+    (λ h. rw h (both (eqb (r .status) s) (eqb (r .id) i)))
+    ∙ spread (is kindTradeHistory r) (eqb (r .id) i) (eqb (r .status) s)
+  where
+    both : (a b : Bool) → (a && true && true && b && true && true && true) ≡ (b && a)
+    both true true = refl
+    both true false = refl
+    both false true = refl
+    both false false = refl

@@ -1,0 +1,53 @@
+-- Finds and counts by the place of the first that passes. Assumes nothing.
+use mathlib.Core.Path.{_≡_, refl, sym, ap, _∙_}
+use mathlib.Core.Bool.{Bool, true, false, cond, not, _&&_}
+use mathlib.Core.List.{List, [], _∷_}
+use Prim.Native.Nat.{ℕ, zero, suc, _+_, _<_}
+use native.Mathlib.Nat.{zero-add}
+use native.Mathlib.Numerals.{add-one}
+use native.Mathlib.Omega.{arith}
+use lib.Dec.{leb, ltb, leb·suc-suc}
+use lib.ListN.{length, getD}
+use borrow.Author.Tests.{le-leb, lt-ltb}
+use Rattle.laws.specs.Search.{bit, count, every, place, seek, the, total}
+use Rattle.laws.specs.Tests.{and-left, and-right}
+
+module _ {A : Type 0} where
+  pub seek-suc : (p : A → Bool) (i : ℕ) (l : List A) → seek p (suc i) l ≡ suc (seek p i l)
+  unfolding seek
+  seek-suc p i [] = refl
+  seek-suc p i (x ∷ l) = go (p x) refl (seek-suc p (suc i) l)
+    where
+      go : (t : Bool) → p x ≡ t → seek p (suc (suc i)) l ≡ suc (seek p (suc i) l)
+          → seek p (suc i) (x ∷ l) ≡ suc (seek p i (x ∷ l))
+      go true e ih = rw e
+      go false e ih = rw (e, add-one i, add-one (suc i)) ih
+
+  -- the first that passes stands at its place
+  pub the-place : (p : A → Bool) (d : A) (l : List A) → the p d l ≡ getD l (place p l) d
+  unfolding the seek
+  the-place p d [] = refl
+  the-place p d (x ∷ l) = go (p x) refl (the-place p d l)
+    where
+      go : (t : Bool) → p x ≡ t → the p d l ≡ getD l (place p l) d
+          → the p d (x ∷ l) ≡ getD (x ∷ l) (place p (x ∷ l)) d
+      go true e ih = rw e
+      go false e ih = rw (e, seek-suc p 0 l) ih
+
+  -- some pass where the place is not the end
+  pub some-place : (p : A → Bool) (l : List A) → leb 1 (count p l) ≡ ltb (place p l) (length l)
+  unfolding count total seek
+  some-place p [] = refl
+  some-place p (x ∷ l) = go (p x) refl (some-place p l)
+    where
+      go : (t : Bool) → p x ≡ t → leb 1 (count p l) ≡ ltb (place p l) (length l)
+          → leb 1 (count p (x ∷ l)) ≡ ltb (place p (x ∷ l)) (length (x ∷ l))
+      go true e ih =
+          rw e (le-leb 1 (1 + count p l) (omega arith) ∙ sym (lt-ltb 0 (suc (length l)) (omega arith)))
+      go false e ih = rw (e, seek-suc p 0 l, zero-add) (ih ∙ sym (leb·suc-suc (suc (place p l)) (length l)))
+
+  pub every-at : (p : A → Bool) (d : A) (l : List A) (i : ℕ) → every p l ≡ true → i < length l → p (getD l i d) ≡ true
+  unfolding every
+  every-at p d [] i e h = absurd (omega arith)
+  every-at p d (x ∷ l) zero e h = and-left (p x) (every p l) e
+  every-at p d (x ∷ l) (suc i) e h = every-at p d l i (and-right (p x) (every p l) e) (omega arith)

@@ -1,0 +1,162 @@
+-- What is summed over one bucket: the bands that overlap one, a customer's rates, and an account's shares of a symbol,
+-- those held and those owed apart. Assumes nothing.
+use mathlib.Core.Path.{_≡_, refl, sym, ap, _∙_}
+use mathlib.Core.Bool.{Bool, true, false, cond, _&&_}
+use mathlib.Core.List.{List, [], _∷_}
+use Prim.Native.Nat.{ℕ, _+_, _-_, _/_, _≤_, _<_}
+use native.Mathlib.Omega.{arith}
+use lib.Dec.{eqb, leb}
+use lib.IntN.{ℤ, pos, negsuc, natAbs, _+ℤ_}
+use lib.ListN.{length}
+use lib.Signed.{leZ, ltZ}
+use mir.Facts.{toZ-pos}
+use mir.Syntax.{w64}
+use mir.Val.{toZ}
+use borrow.Author.Tests.{eqb-true, leb-true, leb-false, le-leb, le-ltb}
+use Rattle.laws.specs.Search.{bit, sumZ, the, total}
+use Rattle.laws.specs.Tests.{and-left, and-right}
+use Rattle.record.specs.Codes.{kindBand, kindCustomerRate, kindLot, kindTaxRate}
+use Rattle.record.specs.Key.{keyOf}
+use Rattle.record.specs.Signed.{up, dn, parts-add, leZ-is, toZ-high}
+use Rattle.record.specs.declared.row.Row.{Row}
+use Rattle.rules.specs.Meaning.{means-lot}
+use Rattle.rules.specs.Ranges.{sharesMost}
+use Rattle.rules.specs.Rules.{as-kind, fits}
+use Rattle.model.specs.Rows.{found, is, nothing, rows}
+use Rattle.model.specs.Sound.{lotOf, overlaps, rateOf, s1, sharesOf}
+use Rattle.shelf.specs.Rows.{length-rows, rowAt}
+use Rattle.tables.specs.Bucket.{bucketOf, keyBucket, lotBucket}
+use Rattle.tables.specs.Names.{ofParty}
+use Rattle.tables.specs.Place.{every-at}
+use Rattle.tables.specs.Table.{Counted}
+use Rattle.tables.specs.Tests.{Keyed, lot-bucket, passes}
+use Rattle.tables.specs.declared.test.Test.the-variants.{Party}
+
+-- what f gives of the rows of p, and nothing of any other, is counted by their number
+only-keyed : (g : Row → ℕ) (p : Row → Bool) (f : Row → ℕ) (m k : ℕ) → Keyed g p k
+    → ((r : Row) → p r ≡ false → f r ≡ 0) → Counted g f m k
+only-keyed g p f m k a z = record { none = λ r e. go r e (p r) refl }
+  where
+    go : (r : Row) → (g r ≡ k → ⊥) → (t : Bool) → p r ≡ t → f r ≡ 0
+    go r e true q = absurd (e (a .all r q))
+    go r e false q = z r q
+
+-- ---- bands
+band-bucket : (a r : Row) → overlaps a r ≡ true → keyBucket r ≡ bucketOf kindBand (a .form) (a .flags) 0 0 0
+unfolding keyBucket keyOf
+band-bucket a r e =
+    let k = is kindBand r in
+    let f = eqb (a .form) (r .form) in
+    let s = eqb (a .status) (r .status) in
+    let g = eqb (a .flags) (r .flags) in
+    let x = leb (a .n1) (r .n2) in
+    let h = and-left (k && f && s && g) x (and-left (k && f && s && g && x) (leb (r .n1) (a .n2)) e) in
+    let kfs = and-left (k && f && s) g h in
+    let kf = and-left (k && f) s kfs in
+    let same-form = eqb-true (a .form) (r .form) (and-right k f kf) in
+    let same-flags = eqb-true (a .flags) (r .flags) (and-right (k && f && s) g h) in
+    rw (eqb-true (r .kind) kindBand (and-left k f kf), same-form, same-flags)
+
+pub bands-counted : (a : Row) → Counted keyBucket (λ r. bit (overlaps a r)) 1 (bucketOf kindBand (a .form) (a .flags) 0 0 0)
+bands-counted a =
+    only-keyed keyBucket (overlaps a) (λ r. bit (overlaps a r)) 1 (bucketOf kindBand (a .form) (a .flags) 0 0 0)
+    (record { all = band-bucket a }) (λ r q. rw q)
+
+-- ---- rates
+rate-bucket : (customer : ℕ) (r : Row) → ofParty kindCustomerRate customer r ≡ true
+    → keyBucket r ≡ bucketOf kindCustomerRate 0 0 customer 0 0
+unfolding keyBucket keyOf
+rate-bucket customer r e =
+    let k = is kindCustomerRate r in
+    let p = eqb (r .party) customer in
+    rw (eqb-true (r .kind) kindCustomerRate (and-left k p e), eqb-true (r .party) customer (and-right k p e))
+
+pub rates-counted : (rs : List Row) (customer : ℕ)
+    → Counted keyBucket (rateOf rs customer) 4294967295 (bucketOf kindCustomerRate 0 0 customer 0 0)
+rates-counted rs customer =
+    only-keyed keyBucket (ofParty kindCustomerRate customer) (rateOf rs customer) 4294967295
+    (bucketOf kindCustomerRate 0 0 customer 0 0) (record { all = rate-bucket customer }) (λ r q. rw q)
+
+pub rate-yes : (rs : List Row) (customer : ℕ) (r : Row) {x : ℕ} {t : Row} → ofParty kindCustomerRate customer r ≡ true
+    → t ≡ the (passes (Party kindTaxRate (r .n1))) nothing rs → x ≡ t .n1 → x ≡ rateOf rs customer r
+unfolding passes found
+rate-yes rs customer r e h q = rw e (q ∙ ap (λ (u : Row). u .n1) h)
+
+pub rate-no : (rs : List Row) (customer : ℕ) (r : Row) → ofParty kindCustomerRate customer r ≡ false
+    → 0 ≡ rateOf rs customer r
+rate-no rs customer r e = rw e
+
+-- ---- shares
+pub short-is : (x : ℕ) → leb 9223372036854775808 x ≡ ltZ (toZ w64 x) (pos 0)
+short-is x = go (leb 9223372036854775808 x) refl
+  where
+    go : (t : Bool) → leb 9223372036854775808 x ≡ t → leb 9223372036854775808 x ≡ ltZ (toZ w64 x) (pos 0)
+    go true e = rw (e, toZ-high w64 x (leb-true 9223372036854775808 x e))
+    go false e =
+        let h = leb-false 9223372036854775808 x e in
+        rw (e, toZ-pos w64 {n = x} (omega arith)) (sym (le-ltb x 0 (omega arith)))
+
+-- a signed number's distance from zero where it is on this side of it, and 0 on the other
+abbrev pub side : Bool → ℕ → ℕ
+side true x = dn (toZ w64 x)
+side false x = up (toZ w64 x)
+
+abbrev pub sharesPart : Bool → ℕ → ℕ → Row → ℕ
+sharesPart owed account symbol r = cond (lotOf account symbol r) (side owed (r .m1)) 0
+
+pub shares-counted : (owed : Bool) (account symbol : ℕ)
+    → Counted lotBucket (sharesPart owed account symbol) sharesMost (bucketOf kindLot 0 0 account 0 symbol)
+shares-counted owed account symbol =
+    only-keyed lotBucket (lotOf account symbol) (sharesPart owed account symbol) sharesMost
+    (bucketOf kindLot 0 0 account 0 symbol) (record { all = lot-bucket account symbol }) (λ r q. rw q)
+
+-- the two sides by the bits
+pub side-above : (x : ℕ) → x < 9223372036854775808 → (x ≡ side false x) × (0 ≡ side true x)
+side-above x h = let e = toZ-pos w64 {n = x} h in (rw e, rw e)
+
+pub side-below : (x : ℕ) → 9223372036854775808 ≤ x → x ≤ 18446744073709551615
+    → (0 ≡ side false x) × (18446744073709551615 - x + 1 ≡ side true x)
+side-below x h k = let e = toZ-high w64 x h in (rw e, rw e (omega arith))
+
+most-up : (z : ℤ) (m : ℕ) → natAbs z ≤ m → up z ≤ m
+most-up (pos n) m h = h
+most-up (negsuc n) m h = omega arith
+
+most-dn : (z : ℤ) (m : ℕ) → natAbs z ≤ m → dn z ≤ m
+most-dn (pos n) m h = omega arith
+most-dn (negsuc n) m h = h
+
+side-most : (owed : Bool) (x m : ℕ) → natAbs (toZ w64 x) ≤ m → side owed x ≤ m
+side-most true x m h = most-dn (toZ w64 x) m h
+side-most false x m h = most-up (toZ w64 x) m h
+
+-- the shares of a lot that fits the grid are in their range
+lot-most : (r : Row) → r .kind ≡ kindLot → fits r ≡ true → natAbs (toZ w64 (r .m1)) ≤ sharesMost
+lot-most r k e = means-lot r .shows (as-kind kindLot r k ∙ e) .0 .1
+
+pub share-yes : (owed : Bool) (account symbol : ℕ) (r : Row) {t : Bool} {x : ℕ} → fits r ≡ true
+    → t ≡ lotOf account symbol r → t ≡ true → x ≡ side owed (r .m1)
+    → (x ≡ sharesPart owed account symbol r) × (x ≤ sharesMost)
+share-yes owed account symbol r f h e q =
+    let yes = sym h ∙ e in
+    let k = and-left (is kindLot r) (eqb (r .party) account)
+    (and-left (is kindLot r && eqb (r .party) account) (eqb (r .symbol) symbol) yes)
+    in
+    let m = side-most owed (r .m1) sharesMost (lot-most r (eqb-true (r .kind) kindLot k) f) in
+    (rw yes q, rw q m)
+
+pub share-no : (owed : Bool) (account symbol : ℕ) (r : Row) {t : Bool} → t ≡ lotOf account symbol r → t ≡ false
+    → 0 ≡ sharesPart owed account symbol r
+share-no owed account symbol r h e = rw (sym h ∙ e)
+
+-- every row of a book that keeps S1 fits
+pub fits-there : (b : List ℕ) (c : ℕ) {r : Row} → s1 (rows b) ≡ true → c < length b / 64 → r ≡ rowAt b c
+    → fits r ≡ true
+unfolding s1
+fits-there b c e h q = rw q (every-at fits nothing (rows b) c e (rw length-rows h))
+
+pub bit-yes : (t : Bool) {x : Bool} → x ≡ t → x ≡ true → 1 ≡ bit t
+bit-yes t e h = rw (← e, h)
+
+pub bit-no : (t : Bool) {x : Bool} → x ≡ t → x ≡ false → 0 ≡ bit t
+bit-no t e h = rw (← e, h)

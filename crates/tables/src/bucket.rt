@@ -1,0 +1,51 @@
+// The bucket of a row in a table: by its key, without the fields that bands, rates and histories of one name differ
+// in; and, of a lot, by its account and symbol. What a table does not list has a bucket of its own.
+ghost use mathlib.Core.Path.{_≡_};
+ghost use Prim.Native.Nat.{_<_};
+ghost use Rattle.tables.specs.Bucket.{bucketOf, keyBucket, lotBucket};
+use record::codes::Kind;
+use record::key::Key;
+use record::row::Row;
+
+fn wide8(x: u8) -> u64
+    ensures { λ r. ⌜ (r ≡ x) × (r < 256) ⌝ }
+{
+    x as u64
+}
+
+fn wide32(x: u32) -> u64
+    ensures { λ r. ⌜ (r ≡ x) × (r < 4294967296) ⌝ }
+{
+    x as u64
+}
+
+pub fn bucket(kind: u8, form: u8, flags: u8, party: u32, id: u64, symbol: u64) -> usize
+    ensures { λ r. ⌜ (r ≡ bucketOf kind form flags party id symbol) × (r < 8193) ⌝ }
+{
+    if kind == Kind::FREE {
+        return 8192;
+    }
+    let name = wide8(kind) + wide8(form) * 256 + wide8(flags) * 65_536;
+    let letters = symbol / 4_294_967_296 + symbol % 4_294_967_296;
+    let mixed = name * 506_952_119
+        + wide32(party) * 316_542_083
+        + id % 4_294_967_296 * 506_952_113
+        + letters * 401_236_177;
+    (mixed % 4_294_967_296 / 524_288) as usize
+}
+
+pub fn key_bucket(r: Row) -> usize
+    ensures { λ b. ⌜ (b ≡ keyBucket r) × (b < 8193) ⌝ }
+{
+    let k = Key::of(r);
+    bucket(k.kind, k.form, k.flags, k.party, k.id, k.symbol)
+}
+
+pub fn lot_bucket(r: Row) -> usize
+    ensures { λ b. ⌜ (b ≡ lotBucket r) × (b < 8193) ⌝ }
+{
+    if r.kind == Kind::LOT {
+        return bucket(Kind::LOT, 0, 0, r.party, 0, r.symbol);
+    }
+    8192
+}

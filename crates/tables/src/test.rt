@@ -1,0 +1,98 @@
+// What a row is looked for by.
+ghost use mathlib.Core.Path.{_≡_};
+ghost use mathlib.Core.Bool.{not, true, _&&_};
+ghost use lib.Dec.{eqb, ltb};
+ghost use Rattle.laws.specs.Tests.{_⇔_};
+ghost use Rattle.record.specs.Codes.{kindSecurity, kindSummary, kindTradeHistory};
+ghost use Rattle.model.specs.Sound.{lotOf, short};
+ghost use Rattle.tables.specs.Names.{ofId, ofParty, ofSymbol};
+ghost use Rattle.tables.specs.Tests.{passes, proper};
+use record::codes::Kind;
+use record::row::Row;
+use rules::limited::alike;
+
+pub enum Test {
+    // a trade, request, settlement or cash row by its number
+    Id(u8, u64),
+    // a broker, customer, tax rate or account by its number
+    Party(u8, u32),
+    Security(u64),
+    Summary(u32, u64),
+    // a trade's history of a status, and of a status above it
+    History(u64, u8),
+    Higher(u64, u8),
+    // a lot of an account and symbol, and one that is not short where this is, or is where this is not
+    Held(u32, u64),
+    Opposed(u32, u64, bool),
+}
+
+// The shares are sold short.
+pub fn short(r: Row) -> bool
+    ensures { λ b. ⌜ b ≡ short r ⌝ }
+{
+    9_223_372_036_854_775_808 <= r.m1
+}
+
+pub fn held(account: u32, symbol: u64, r: Row) -> bool
+    ensures { λ b. ⌜ b ≡ lotOf account symbol r ⌝ }
+{
+    (r.kind == Kind::LOT) & (r.party == account) & (r.symbol == symbol)
+}
+
+fn of_id(kind: u8, id: u64, r: Row) -> bool
+    ensures { λ b. ⌜ b ≡ ofId kind id r ⌝ }
+{
+    (r.kind == kind) & (r.id == id)
+}
+
+fn of_party(kind: u8, party: u32, r: Row) -> bool
+    ensures { λ b. ⌜ b ≡ ofParty kind party r ⌝ }
+{
+    (r.kind == kind) & (r.party == party)
+}
+
+fn security(symbol: u64, r: Row) -> bool
+    ensures { λ b. ⌜ b ≡ ofSymbol kindSecurity symbol r ⌝ }
+{
+    (r.kind == Kind::SECURITY) & (r.symbol == symbol)
+}
+
+fn summary(account: u32, symbol: u64, r: Row) -> bool
+    ensures { λ b. ⌜ b ≡ (ofParty kindSummary account r && eqb (r .symbol) symbol) ⌝ }
+{
+    (r.kind == Kind::SUMMARY) & (r.party == account) & (r.symbol == symbol)
+}
+
+fn history(id: u64, status: u8, r: Row) -> bool
+    ensures { λ b. ⌜ b ≡ (ofId kindTradeHistory id r && eqb (r .status) status) ⌝ }
+{
+    (r.kind == Kind::TRADE_HISTORY) & (r.id == id) & (r.status == status)
+}
+
+fn higher(id: u64, status: u8, r: Row) -> bool
+    ensures { λ b. ⌜ b ≡ (ofId kindTradeHistory id r && ltb status (r .status)) ⌝ }
+{
+    (r.kind == Kind::TRADE_HISTORY) & (r.id == id) & (status < r.status)
+}
+
+fn opposed(account: u32, symbol: u64, sold: bool, r: Row) -> bool
+    ensures { λ b. ⌜ b ≡ (lotOf account symbol r && not (sold ⇔ short r)) ⌝ }
+{
+    held(account, symbol, r) & !alike(sold, short(r))
+}
+
+pub fn passes(t: Test, r: Row) -> bool
+    requires { ⌜ proper t ≡ true ⌝ }
+    ensures { λ b. ⌜ b ≡ passes t r ⌝ }
+{
+    match t {
+        Test::Id(kind, id) => of_id(kind, id, r),
+        Test::Party(kind, party) => of_party(kind, party, r),
+        Test::Security(symbol) => security(symbol, r),
+        Test::Summary(account, symbol) => summary(account, symbol, r),
+        Test::History(id, status) => history(id, status, r),
+        Test::Higher(id, status) => higher(id, status, r),
+        Test::Held(account, symbol) => held(account, symbol, r),
+        Test::Opposed(account, symbol, sold) => opposed(account, symbol, sold, r),
+    }
+}
