@@ -4,6 +4,7 @@ pub mod Digits
 pub mod Lists
 pub mod Search
 pub mod Walk
+pub mod Place
 pub mod Chain
 pub mod Sort
 pub mod Change

@@ -66,7 +66,7 @@ abbrev pub aCash : ℕ → Key
 aCash i = byId kindCash i
 
 -- what a row of each kind names, by the kind's number
-abbrev names : List (Row → List Key)
+abbrev pub names : List (Row → List Key)
 names =
     (λ r. [])
     ∷ (λ r. [])

@@ -21,7 +21,7 @@ use Rattle.model.specs.Names.{named}
 use Rattle.model.specs.Rows.{found, hasKey, is, there}
 
 -- the row is none of this kind, or obeys
-abbrev each : ℕ → (Row → Bool) → Row → Bool
+abbrev pub each : ℕ → (Row → Bool) → Row → Bool
 each k p r = not (is k r) || p r
 
 -- "S1 every record is free or fits the grid."
@@ -111,7 +111,7 @@ lotRight rs l =
 abbrev pub sharesOf : ℕ → ℕ → Row → ℤ
 sharesOf account symbol r = cond (lotOf account symbol r) (toZ w64 (r .m1)) (pos 0)
 
-abbrev equalZ : ℤ → ℤ → Bool
+abbrev pub equalZ : ℤ → ℤ → Bool
 equalZ a b = leZ a b && leZ b a
 
 abbrev pub summaryRight : List Row → Row → Bool

@@ -1,13 +1,21 @@
--- A book's rows by place: the row read at a place, and the rows after a row is put at one. Assumes nothing.
-use mathlib.Core.Path.{_≡_, sym, ap, _∙_}
-use mathlib.Core.List.{List, [], map}
-use Prim.Native.Nat.{ℕ, _*_, _/_, _≤_, _<_}
+-- A book's rows by place: the row read at a place, the rows after a row is put at one, and the lowest free place.
+-- Assumes nothing.
+use mathlib.Core.Path.{_≡_, refl, ap, _∙_}
+use mathlib.Core.Bool.{Bool, true, false, cond}
+use mathlib.Core.List.{List, []}
+use mathlib.Core.Logic.{_⊎_, inl, inr, ⊎-elim}
+use Prim.Native.Nat.{ℕ, _+_, _*_, _/_, _≤_, _<_}
 use native.Mathlib.Omega.{arith}
-use lib.ListN.{length, getD, set, length-map, List·getD-map, List·getD-eq-default}
+use borrow.Author.Tests.{lt-ltb, le-ltb, ltb-true, ltb-false}
+use lib.Dec.{ltb}
+use lib.ListN.{length, drop, getD, set, length-map, List·getD-map, List·getD-eq-default}
+use lib.Seq.{set-out}
 use Rattle.laws.specs.Chunk.{chunk, part, splice, length-chunk, chunk-at, chunk-splice, length-splice, map-set}
+use Rattle.laws.specs.Search.{seek}
+use Rattle.record.specs.Codes.{kindFree}
 use Rattle.record.specs.Grid.{decode, encode, decode-encode, length-encode, Sized}
 use Rattle.record.specs.declared.row.Row.{Row}
-use Rattle.model.specs.Rows.{nothing, rows}
+use Rattle.model.specs.Rows.{is, nothing, rows}
 
 -- the row at a place, nothing past the end
 abbrev pub rowAt : List ℕ → ℕ → Row
@@ -25,20 +33,61 @@ rows-at b i h =
 pub rows-past : (b : List ℕ) (i : ℕ) → length b / 64 ≤ i → rowAt b i ≡ nothing
 rows-past b i h = List·getD-eq-default (rows b) nothing (rw length-rows h)
 
--- the book with a row put at a place
+in-or-past : (i n : ℕ) → (i < n) ⊎ (n ≤ i)
+in-or-past i n = go (ltb i n) refl
+  where
+    go : (t : Bool) → ltb i n ≡ t → (i < n) ⊎ (n ≤ i)
+    go true e = inl (ltb-true i n e)
+    go false e = inr (ltb-false i n e)
+
+-- the book with a row put at a place; past the end nothing is put
 unfoldable pub putAt : List ℕ → ℕ → Row → List ℕ
-putAt b i r = splice (i * 64) 64 (encode r) b
+putAt b i r = cond (ltb i (length b / 64)) (splice (i * 64) 64 (encode r) b) b
 
-pub length-putAt : (b : List ℕ) (i : ℕ) (r : Row) → i < length b / 64 → length (putAt b i r) ≡ length b
+pub putAt-in : (b : List ℕ) (i : ℕ) (r : Row) → i < length b / 64 → putAt b i r ≡ splice (i * 64) 64 (encode r) b
 unfolding putAt
-length-putAt b i r h = length-splice (i * 64) 64 (encode r) b (length-encode r) (omega arith)
+putAt-in b i r h = rw (lt-ltb i (length b / 64) h)
 
-chunks-put : (b : List ℕ) (i : ℕ) (r : Row) → i < length b / 64
-    → chunk 64 (length b / 64) (putAt b i r) ≡ set (chunk 64 (length b / 64) b) i (encode r)
+pub putAt-past : (b : List ℕ) (i : ℕ) (r : Row) → length b / 64 ≤ i → putAt b i r ≡ b
 unfolding putAt
-chunks-put b i r h = chunk-splice 64 (length b / 64) i (encode r) b (length-encode r) h (omega arith)
+putAt-past b i r h = rw (le-ltb i (length b / 64) h)
 
-pub rows-put : (b : List ℕ) (i : ℕ) (r : Row) → Sized r → i < length b / 64 → rows (putAt b i r) ≡ set (rows b) i r
+length-in : (b : List ℕ) (i : ℕ) (r : Row) → i < length b / 64 → length (putAt b i r) ≡ length b
+length-in b i r h = rw (putAt-in b i r h) (length-splice (i * 64) 64 (encode r) b (length-encode r) (omega arith))
+
+pub length-putAt : (b : List ℕ) (i : ℕ) (r : Row) → length (putAt b i r) ≡ length b
+length-putAt b i r = ⊎-elim (length-in b i r) (λ h. ap length (putAt-past b i r h)) (in-or-past i (length b / 64))
+
+rows-in : (b : List ℕ) (i : ℕ) (r : Row) → Sized r → i < length b / 64 → rows (putAt b i r) ≡ set (rows b) i r
 unfolding rows
-rows-put b i r z h =
-    rw (length-putAt b i r h, chunks-put b i r h, map-set decode (chunk 64 (length b / 64) b) i (encode r), decode-encode r z)
+rows-in b i r z h =
+    let parts = chunk 64 (length b / 64) b in
+    let e = chunk-splice 64 (length b / 64) i (encode r) b (length-encode r) h (omega arith) in
+    rw (length-putAt b i r, putAt-in b i r h, e, map-set decode parts i (encode r), decode-encode r z)
+
+rows-out : (b : List ℕ) (i : ℕ) (r : Row) → length b / 64 ≤ i → rows (putAt b i r) ≡ set (rows b) i r
+rows-out b i r h = rw (putAt-past b i r h, set-out (rows b) i r (rw length-rows h))
+
+pub rows-put : (b : List ℕ) (i : ℕ) (r : Row) → Sized r → rows (putAt b i r) ≡ set (rows b) i r
+rows-put b i r z = ⊎-elim (rows-in b i r z) (rows-out b i r) (in-or-past i (length b / 64))
+
+-- what a put promises of the bytes that it leaves
+pub puts : {v : List ℕ} (b : List ℕ) (i : ℕ) (r : Row) → Sized r → v ≡ putAt b i r
+    → (v ≡ putAt b i r) × (rows v ≡ set (rows b) i r)
+puts b i r z e = (e, ap rows e ∙ rows-put b i r z)
+
+-- the lowest free place from a place on; where there is none, the end, or that place if it is past the end
+abbrev pub freeFrom : List Row → ℕ → ℕ
+freeFrom rs i = seek (is kindFree) i (drop i rs)
+
+-- the place after a place; past the end the place itself
+unfoldable pub after : List Row → ℕ → ℕ
+after rs i = cond (ltb i (length rs)) (i + 1) i
+
+pub after-in : (b : List ℕ) (i : ℕ) → i < length b / 64 → i + 1 ≡ after (rows b) i
+unfolding after
+after-in b i h = rw (length-rows, lt-ltb i (length b / 64) h)
+
+pub after-past : (b : List ℕ) (i : ℕ) → length b / 64 ≤ i → i ≡ after (rows b) i
+unfolding after
+after-past b i h = rw (length-rows, le-ltb i (length b / 64) h)

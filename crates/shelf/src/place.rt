@@ -1,6 +1,6 @@
 // The row at a place.
 ghost use mathlib.Core.Path.{_≡_};
-ghost use Rattle.model.specs.Rows.{nothing, rows};
+ghost use Rattle.model.specs.Rows.{nothing};
 ghost use Rattle.shelf.specs.Rows.{rowAt};
 use record::row::Grid;
 use record::row::Row;

@@ -27,7 +27,7 @@ use Rattle.model.specs.Sound.{lotOf, overlaps, rateOf, s1, sharesOf}
 use Rattle.shelf.specs.Rows.{length-rows, rowAt}
 use Rattle.tables.specs.Bucket.{bucketOf, keyBucket, lotBucket}
 use Rattle.tables.specs.Names.{ofParty}
-use Rattle.tables.specs.Place.{every-at}
+use Rattle.laws.specs.Place.{every-at}
 use Rattle.tables.specs.Table.{Counted}
 use Rattle.tables.specs.Tests.{Keyed, lot-bucket, passes}
 use Rattle.tables.specs.declared.test.Test.the-variants.{Party}

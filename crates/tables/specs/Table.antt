@@ -21,7 +21,7 @@ use Rattle.model.specs.Rows.{hasKey, mostRecords, nothing, rows}
 use Rattle.shelf.specs.Loop.{Sought, seek-found, seek-more, seek-none}
 use Rattle.shelf.specs.Rows.{length-rows, rowAt}
 use Rattle.tables.specs.Bucket.{bucketOfKey, keyBucket}
-use Rattle.tables.specs.Place.{some-place, the-place}
+use Rattle.laws.specs.Place.{some-place, the-place}
 use Rattle.tables.specs.Tests.{Keyed, test-keyed}
 
 -- the heads of the buckets, and after them a link for each place
@@ -119,11 +119,8 @@ pub record Probed (g : Row → ℕ) (p : Row → Bool) (k : ℕ) (b : List ℕ) 
 probe-at : (g : Row → ℕ) (p : Row → Bool) (k : ℕ) (b : List ℕ) (w i : ℕ) → Keyed g p k → i ≤ length b / 64
     → seek p i (drop i (rows b)) ≡ w → (c : ℕ) → c ≡ from (numbered g k) (rows b) i → Probed g p k b w c
 probe-at g p k b w i a h e c q =
-    let n = length-rows b in
-    let f = from-high (numbered g k) (rows b) i (omega arith) in
     record {
       sought = record {
-        within = omega arith;
         same = rw q (sym (from-skips (numbered g k) (rows b) i p (λ r t. has g r k (a .all r t))) ∙ e);
       };
       here = holds-there g k b i c q;
@@ -153,7 +150,7 @@ module _ {g : Row → ℕ} {p : Row → Bool} {k : ℕ} {b : List ℕ} {w c : �
       → r ≡ rowAt b c → x ≡ p r → x ≡ false → u ≡ getD table (headCount + c) 0 → Probed g p k b w u
   probe-more {table} {x} {r} {u} t h a f e q =
       let l = seek-more (s .sought) h a f e in
-      probe-at g p k b w (c + 1) (s .keyed) (l .within) (l .same) u (q ∙ link t c h ∙ rw (s .here h))
+      probe-at g p k b w (c + 1) (s .keyed) (omega arith) (l .same) u (q ∙ link t c h ∙ rw (s .here h))
 
 -- what the place of the first row that passes tells
 pub there-is : (p : Row → Bool) (b : List ℕ) {x : ℕ} → x ≡ place p (rows b)

@@ -21,6 +21,7 @@ use record::key::Key;
 use record::row::Grid;
 use record::row::Row;
 use shelf::place::row_at;
+use shelf::search::named;
 
 // A table has the first place of each bucket and then, for each place, the next place of its bucket. The number of
 // records stands for none.
@@ -117,12 +118,6 @@ pub fn found(book: &[u8], table: &[u16; Slots::ALL], test: Test) -> Row
     ensures { λ r. ⌜ r ≡ the (passes test) nothing (rows (now (book .entry))) ⌝ }
 {
     row_at(book, first(book, table, test))
-}
-
-fn named(key: Key, row: Row) -> bool
-    ensures { λ r. ⌜ r ≡ hasKey key row ⌝ }
-{
-    Key::of(row).same(key)
 }
 
 // The next place after i with the key of the row at i, the number of records where there is none.

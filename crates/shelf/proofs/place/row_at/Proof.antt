@@ -1,6 +1,5 @@
 -- The row of a place is that of the part of the book there, and past the end nothing. Assumes nothing.
 use native.Mathlib.Nat.{add-sub-cancel-left}
-use native.Mathlib.Omega.{arith}
 use mathlib.Core.Path.{sym, _∙_}
 use Rattle.shelf.specs.Rows.{rows-at, rows-past}
 use borrow.Author.Needs.{needs}

@@ -1,0 +1,5 @@
+pub mod Distinct
+pub mod Once
+pub mod ByRow
+pub mod Rules
+pub mod Status

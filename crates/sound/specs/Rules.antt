@@ -1,0 +1,211 @@
+-- Each rule as the code decides it: by what is found, where the definition counts. Assumes nothing.
+use mathlib.Core.Path.{_≡_, refl, sym, ap, _∙_}
+use mathlib.Core.Bool.{Bool, true, false, cond, not, _&&_, _||_}
+use mathlib.Core.List.{List, [], _∷_}
+use Prim.Native.Nat.{ℕ, zero, suc, _+_, _*_, _%_, _≤_, _<_}
+use native.Mathlib.Omega.{arith}
+use lib.Dec.{eqb, leb}
+use lib.IntN.{ℤ, pos, _+ℤ_}
+use lib.ListN.{List·getD-eq-default}
+use mir.Syntax.{w64}
+use mir.Val.{toZ}
+use borrow.Author.Tests.{eq-eqb, eqb-true, eqb-false, le-leb, leb-true, leb-false, ne-eqb}
+use Rattle.laws.specs.Search.{bit, count, every, sumZ, total}
+use Rattle.laws.specs.Tests.{_⇔_}
+use Rattle.record.specs.Codes.{completed, kindRequest, kindSettlement, kindCash, pending, tlb}
+use Rattle.record.specs.Signed.{up, dn, parts-add, leZ-is}
+use Rattle.record.specs.declared.key.Key.{Key}
+use Rattle.record.specs.declared.row.Row.{Row}
+use Rattle.model.specs.Flags.{cash}
+use Rattle.model.specs.Names.{aCash, aHistory, aRequest, aSettlement, aSummary, aTrade, anAccount, named, names}
+use Rattle.model.specs.Rows.{found, hasKey, is, there}
+use Rattle.model.specs.Sound.{agrees, equalZ, higher, historyRight, lotOf, namesKnown, requestRight, s2, settled}
+use Rattle.model.specs.Sound.{lotRight, otherSign, settlementRight, sharesOf, short, summaryRight}
+use Rattle.tables.specs.Tests.{passes}
+use Rattle.tables.specs.declared.test.Test.the-variants.{Opposed}
+use Rattle.tables.specs.Sums.{sharesPart, side}
+use Rattle.sound.specs.Distinct.{none-left}
+use Rattle.sound.specs.Once.{found-kind, once, once-and}
+
+and-end : (a : Bool) → (a && true) ≡ a
+and-end true = refl
+and-end false = refl
+
+and-three : (a b c : Bool) → (a && (b && c)) ≡ (a && b && c)
+and-three true b c = refl
+and-three false b c = refl
+
+-- ---- S3
+module _ (rs : List Row) (r : Row) where
+  pub names-none : named r ≡ [] → true ≡ namesKnown rs r
+  unfolding every
+  names-none e = rw e
+
+  pub names-one : (a : Key) {x : Bool} → named r ≡ a ∷ [] → x ≡ there a rs → x ≡ namesKnown rs r
+  unfolding every
+  names-one a e h = rw e (h ∙ sym (and-end (there a rs)))
+
+  pub names-two : (a b : Key) {x : Bool} → named r ≡ a ∷ b ∷ [] → x ≡ (there a rs && there b rs) → x ≡ namesKnown rs r
+  unfolding every
+  names-two a b e h = rw e (h ∙ rw (and-end (there b rs)))
+
+  pub names-three : (a b c : Key) {x y : Bool} → named r ≡ a ∷ b ∷ c ∷ [] → x ≡ there a rs
+      → y ≡ (there b rs && there c rs) → (x && y) ≡ namesKnown rs r
+  unfolding every
+  names-three a b c e h k = rw e (rw (h, k, and-end (there c rs)))
+
+-- a kind that there is not names no row
+pub no-names : (r : Row) → 17 ≤ r .kind → named r ≡ []
+unfolding named
+no-names r h = ap (λ (f : Row → List Key). f r) (List·getD-eq-default names (λ (s : Row). []) h)
+
+-- ---- S6
+-- what a request must agree in, beside its number
+abbrev pub agreesWith : ℕ → Row → Row → Bool
+agreesWith broker t r =
+    eqb (r .form) (t .form) && eqb (r .symbol) (t .symbol) && eqb (r .n1) (t .n1) && eqb (r .n2) (t .n2)
+    && eqb (r .party) broker
+
+abbrev asAsked : List Row → Row → Row → Bool
+asAsked rs t r = agreesWith (found (anAccount (t .party)) rs .n1) t r
+
+one-of-two : (a b : Bool) → (a && b) ≡ true → a ≡ true
+one-of-two true b e = refl
+one-of-two false b e = e
+
+and-six : (a b c d e f : Bool) → (a && (b && c && d && e && f)) ≡ (a && b && c && d && e && f)
+and-six true b c d e f = refl
+and-six false b c d e f = refl
+
+module _ (rs : List Row) (unique : s2 rs ≡ true) (t : Row) where
+  agrees-is : eqb (count (agrees rs t) rs) 1 ≡ (there (aRequest (t .id)) rs && asAsked rs t (found (aRequest (t .id)) rs))
+  agrees-is =
+      let k = aRequest (t .id) in
+      let e : (r : Row) → agrees rs t r ≡ (hasKey k r && asAsked rs t r) =
+      λ r. sym (and-six (hasKey k r) (eqb (r .form) (t .form)) (eqb (r .symbol) (t .symbol)) (eqb (r .n1) (t .n1))
+      (eqb (r .n2) (t .n2)) (eqb (r .party) (found (anAccount (t .party)) rs .n1)))
+      in
+      let c : count (agrees rs t) rs ≡ count (λ r. hasKey k r && asAsked rs t r) rs = λ j. count (λ r. e r j) rs in
+      ap (λ (n : ℕ). eqb n 1) c ∙ once-and rs unique k (λ q. omega arith) (asAsked rs t)
+
+  -- a pending trade: of the right type, and its request is there and agrees
+  pub request-pending : {q a : Row} {x : Bool} → t .status ≡ pending → q ≡ found (aRequest (t .id)) rs
+      → a ≡ found (anAccount (t .party)) rs → x ≡ agreesWith (a .n1) t q
+      → (leb tlb (t .form) && is kindRequest q && x) ≡ requestRight rs t
+  request-pending e h k g =
+      let z = found-kind (aRequest (t .id)) rs (λ q. omega arith) in
+      rw (e, g, h, k, agrees-is, z)
+      (sym (and-three (leb tlb (t .form)) (there (aRequest (t .id)) rs) (asAsked rs t (found (aRequest (t .id)) rs))))
+
+  pub request-none : {x : Bool} → (t .status ≡ pending → ⊥) → x ≡ there (aRequest (t .id)) rs
+      → not x ≡ requestRight rs t
+  unfolding there
+  request-none n h =
+      rw (ne-eqb (t .status) pending n) (ap not h ∙ sym (none-left (count (hasKey (aRequest (t .id))) rs)))
+
+-- ---- S7 and S8: nothing is counted where none is there
+none-there : (n : ℕ) {x : Bool} → x ≡ leb 1 n → not x ≡ eqb n 0
+none-there n h = ap not h ∙ sym (none-left n)
+
+pub history-is : (rs : List Row) (t : Row) {x y : Bool} → x ≡ there (aHistory (t .id) (t .status)) rs
+    → y ≡ leb 1 (count (higher t) rs) → (x && not y) ≡ historyRight rs t
+history-is rs t h k = rw (h, none-there (count (higher t) rs) k)
+
+pub lot-is : (rs : List Row) (l : Row) {t : Row} {x m u : Bool} → t ≡ found (aTrade (l .id)) rs → x ≡ short l
+    → m ≡ leb 1 (count (passes (Opposed (l .party) (l .symbol) x)) rs) → u ≡ there (aSummary (l .party) (l .symbol)) rs
+    → (eqb (t .status) completed && eqb (t .party) (l .party) && eqb (t .symbol) (l .symbol) && not m && u)
+    ≡ lotRight rs l
+unfolding passes
+lot-is rs l {m = m} h e f g =
+    let same : m ≡ leb 1 (count (otherSign l) rs) = f ∙ rw e in
+    rw (h, none-there (count (otherSign l) rs) same, g)
+
+-- ---- S8: the shares held and those owed, apart
+sides : (account symbol : ℕ) (l : List Row)
+    → up (sumZ (sharesOf account symbol) l) + total (sharesPart true account symbol) l
+    ≡ dn (sumZ (sharesOf account symbol) l) + total (sharesPart false account symbol) l
+unfolding sumZ total
+sides account symbol [] = refl
+sides account symbol (r ∷ l) =
+    let s = sumZ (sharesOf account symbol) l in
+    let z = parts-add (sharesOf account symbol r) s in
+    let ih = sides account symbol l in
+    let u = side-up account symbol r in
+    let d = side-dn account symbol r in
+    omega arith
+  where
+    side-up : (account symbol : ℕ) (r : Row) → sharesPart false account symbol r ≡ up (sharesOf account symbol r)
+    side-up account symbol r = go (lotOf account symbol r) refl
+      where
+        go : (t : Bool) → lotOf account symbol r ≡ t → sharesPart false account symbol r ≡ up (sharesOf account symbol r)
+        go true e = rw e
+        go false e = rw e
+
+    side-dn : (account symbol : ℕ) (r : Row) → sharesPart true account symbol r ≡ dn (sharesOf account symbol r)
+    side-dn account symbol r = go (lotOf account symbol r) refl
+      where
+        go : (t : Bool) → lotOf account symbol r ≡ t → sharesPart true account symbol r ≡ dn (sharesOf account symbol r)
+        go true e = rw e
+        go false e = rw e
+
+both-ways : (m n : ℕ) → (leb m n && leb n m) ≡ eqb m n
+both-ways m n = go (leb m n) (leb n m) refl refl
+  where
+    go : (t u : Bool) → leb m n ≡ t → leb n m ≡ u → (leb m n && leb n m) ≡ eqb m n
+    go true true e f =
+        let h = leb-true m n e in
+        let k = leb-true n m f in
+        rw (e, f) (sym (eq-eqb m n (omega arith)))
+    go true false e f = let h = leb-false n m f in rw (e, f) (sym (ne-eqb m n (λ q. omega arith)))
+    go false u e f = let h = leb-false m n e in rw e (sym (ne-eqb m n (λ q. omega arith)))
+
+equal-parts : (a b : ℤ) → equalZ a b ≡ eqb (up a + dn b) (up b + dn a)
+equal-parts a b = rw (leZ-is a b, leZ-is b a) (both-ways (up a + dn b) (up b + dn a))
+
+same-equal : (a b c d : ℕ) → (a ≡ b → c ≡ d) → (c ≡ d → a ≡ b) → eqb a b ≡ eqb c d
+same-equal a b c d f g = go (eqb a b) refl
+  where
+    go : (t : Bool) → eqb a b ≡ t → eqb a b ≡ eqb c d
+    go true e = rw e (sym (eq-eqb c d (f (eqb-true a b e))))
+    go false e = rw e (sym (ne-eqb c d (λ q. eqb-false a b e (g q))))
+
+pub summary-is : (rs : List Row) (s : Row) {held : Bool} {long owed x y : ℕ}
+    → held ≡ leb 1 (count (lotOf (s .party) (s .symbol)) rs) → long ≡ total (sharesPart false (s .party) (s .symbol)) rs
+    → owed ≡ total (sharesPart true (s .party) (s .symbol)) rs → x ≡ side true (s .m1) → y ≡ side false (s .m1)
+    → (held && eqb (long + x) (owed + y)) ≡ summaryRight rs s
+summary-is rs s {held} {long} {owed} {x} {y} h l o ex ey =
+    let z = toZ w64 (s .m1) in
+    let total-shares = sumZ (sharesOf (s .party) (s .symbol)) rs in
+    let e = sides (s .party) (s .symbol) rs in
+    let q : eqb (long + x) (owed + y) ≡ eqb (up total-shares + dn z) (up z + dn total-shares) =
+    same-equal (long + x) (owed + y) (up total-shares + dn z) (up z + dn total-shares) (λ u. omega arith)
+    (λ u. omega arith)
+    in
+    rw (← h, equal-parts total-shares z, q)
+
+-- ---- S9
+two-bits : (a b : Bool) → (a ⇔ b) ≡ eqb (bit a) (bit b)
+two-bits true true = refl
+two-bits true false = refl
+two-bits false true = refl
+two-bits false false = refl
+
+low-bit : (f : ℕ) → f % 2 ≡ bit (eqb (f % 2) 1)
+low-bit f = go (eqb (f % 2) 1) refl
+  where
+    go : (t : Bool) → eqb (f % 2) 1 ≡ t → f % 2 ≡ bit (eqb (f % 2) 1)
+    go true e = rw e (eqb-true (f % 2) 1 e)
+    go false e = let n = eqb-false (f % 2) 1 e in rw e (let m : (f % 2 ≡ 1 → ⊥) = n in omega arith)
+
+module _ (rs : List Row) (unique : s2 rs ≡ true) where
+  pub settled-is : (t : Row) {x : Bool} → x ≡ there (aSettlement (t .id)) rs
+      → (x ⇔ eqb (t .status) completed) ≡ settled rs t
+  settled-is t h =
+      rw (h, once rs unique (aSettlement (t .id)) (λ q. omega arith))
+      (two-bits (there (aSettlement (t .id)) rs) (eqb (t .status) completed))
+
+  pub settlement-is : (s : Row) {t : Row} {x : Bool} {y : ℕ} → t ≡ found (aTrade (s .id)) rs
+      → x ≡ there (aCash (s .id)) rs → y ≡ bit x
+      → (eqb (s .flags) (t .flags % 2) && eqb y (s .flags)) ≡ settlementRight rs s
+  settlement-is s {t} h k e =
+      rw (← h, once rs unique (aCash (s .id)) (λ q. omega arith), ← k, ← e, ← low-bit (t .flags))

@@ -1,0 +1,131 @@
+// What is beside a trade: its request (S6), its histories (S7), its settlement and cash (S9), and the trades of a lot
+// history (S10).
+ghost use mathlib.Core.Path.{_≡_};
+ghost use mathlib.Core.Bool.{true};
+ghost use Rattle.laws.specs.Search.{bit};
+ghost use Rattle.record.specs.Codes.{kindLotHistory, kindTrade};
+ghost use Rattle.model.specs.Rows.{rows};
+ghost use Rattle.model.specs.Sound.{cashRight, each, historyRight, requestRight, s2, settled, settlementRight};
+ghost use Rattle.model.specs.Sound.{tradesDone};
+ghost use Rattle.tables.specs.Bucket.{keyBucket};
+ghost use Rattle.tables.specs.Table.{Indexed};
+ghost use Rattle.sound.specs.ByRow.{paidRight};
+ghost use Rattle.sound.specs.Rules.{agreesWith};
+use record::codes::Kind;
+use record::codes::TradeStatus;
+use record::codes::TradeType;
+use record::row::Row;
+use rules::limited::alike;
+use tables::table::Slots;
+use tables::table::found;
+use tables::table::there;
+use tables::test::Test;
+
+fn agrees(broker: u32, t: Row, r: Row) -> bool
+    ensures { λ b. ⌜ b ≡ agreesWith broker t r ⌝ }
+{
+    (r.form == t.form)
+        & (r.symbol == t.symbol)
+        & (r.n1 == t.n1)
+        & (r.n2 == t.n2)
+        & (r.party == broker)
+}
+
+fn requested(book: &[u8], keys: &[u16; Slots::ALL], t: Row) -> bool
+    requires { ⌜ Indexed keyBucket (now book) (now keys) 0 ⌝ }
+    requires { ⌜ s2 (rows (now book)) ≡ true ⌝ }
+    ensures { λ b. ⌜ b ≡ requestRight (rows (now (book .entry))) t ⌝ }
+{
+    if t.status != TradeStatus::PENDING {
+        return !there(book, keys, Test::Id(Kind::REQUEST, t.id));
+    }
+    let r = found(book, keys, Test::Id(Kind::REQUEST, t.id));
+    let a = found(book, keys, Test::Party(Kind::ACCOUNT, t.party));
+    (TradeType::TLB <= t.form) & (r.kind == Kind::REQUEST) & agrees(a.n1, t, r)
+}
+
+pub fn request_right(book: &[u8], keys: &[u16; Slots::ALL], r: Row) -> bool
+    requires { ⌜ Indexed keyBucket (now book) (now keys) 0 ⌝ }
+    requires { ⌜ s2 (rows (now book)) ≡ true ⌝ }
+    ensures { λ b. ⌜ b ≡ each kindTrade (requestRight (rows (now (book .entry)))) r ⌝ }
+{
+    if r.kind != Kind::TRADE {
+        return true;
+    }
+    requested(book, keys, r)
+}
+
+pub fn history_right(book: &[u8], keys: &[u16; Slots::ALL], r: Row) -> bool
+    requires { ⌜ Indexed keyBucket (now book) (now keys) 0 ⌝ }
+    ensures { λ b. ⌜ b ≡ each kindTrade (historyRight (rows (now (book .entry)))) r ⌝ }
+{
+    if r.kind != Kind::TRADE {
+        return true;
+    }
+    there(book, keys, Test::History(r.id, r.status))
+        & !there(book, keys, Test::Higher(r.id, r.status))
+}
+
+fn trade_settled(book: &[u8], keys: &[u16; Slots::ALL], t: Row) -> bool
+    requires { ⌜ Indexed keyBucket (now book) (now keys) 0 ⌝ }
+    requires { ⌜ s2 (rows (now book)) ≡ true ⌝ }
+    ensures { λ b. ⌜ b ≡ settled (rows (now (book .entry))) t ⌝ }
+{
+    alike(
+        there(book, keys, Test::Id(Kind::SETTLEMENT, t.id)),
+        t.status == TradeStatus::COMPLETED,
+    )
+}
+
+fn one(b: bool) -> u8
+    ensures { λ r. ⌜ r ≡ bit b ⌝ }
+{
+    if b { 1 } else { 0 }
+}
+
+fn settlement_paid(book: &[u8], keys: &[u16; Slots::ALL], s: Row) -> bool
+    requires { ⌜ Indexed keyBucket (now book) (now keys) 0 ⌝ }
+    requires { ⌜ s2 (rows (now book)) ≡ true ⌝ }
+    ensures { λ b. ⌜ b ≡ settlementRight (rows (now (book .entry))) s ⌝ }
+{
+    let t = found(book, keys, Test::Id(Kind::TRADE, s.id));
+    let paid = there(book, keys, Test::Id(Kind::CASH, s.id));
+    (s.flags == t.flags % 2) & (one(paid) == s.flags)
+}
+
+fn cash_due(book: &[u8], keys: &[u16; Slots::ALL], c: Row) -> bool
+    requires { ⌜ Indexed keyBucket (now book) (now keys) 0 ⌝ }
+    ensures { λ b. ⌜ b ≡ cashRight (rows (now (book .entry))) c ⌝ }
+{
+    let s = found(book, keys, Test::Id(Kind::SETTLEMENT, c.id));
+    (s.flags == 1) & (s.m1 == c.m1)
+}
+
+pub fn paid_right(book: &[u8], keys: &[u16; Slots::ALL], r: Row) -> bool
+    requires { ⌜ Indexed keyBucket (now book) (now keys) 0 ⌝ }
+    requires { ⌜ s2 (rows (now book)) ≡ true ⌝ }
+    ensures { λ b. ⌜ b ≡ paidRight (rows (now (book .entry))) r ⌝ }
+{
+    if r.kind == Kind::TRADE {
+        return trade_settled(book, keys, r);
+    }
+    if r.kind == Kind::SETTLEMENT {
+        return settlement_paid(book, keys, r);
+    }
+    if r.kind == Kind::CASH {
+        return cash_due(book, keys, r);
+    }
+    true
+}
+
+pub fn history_done(book: &[u8], keys: &[u16; Slots::ALL], r: Row) -> bool
+    requires { ⌜ Indexed keyBucket (now book) (now keys) 0 ⌝ }
+    ensures { λ b. ⌜ b ≡ each kindLotHistory (tradesDone (rows (now (book .entry)))) r ⌝ }
+{
+    if r.kind != Kind::LOT_HISTORY {
+        return true;
+    }
+    let a = found(book, keys, Test::Id(Kind::TRADE, r.id));
+    let b = found(book, keys, Test::Id(Kind::TRADE, r.m2));
+    (a.status == TradeStatus::COMPLETED) & (b.status == TradeStatus::COMPLETED)
+}

@@ -1,0 +1,117 @@
+// The whole of a book: S1 of every row, S2, then S3 to S10 of every row; and its status.
+ghost use mathlib.Core.Path.{_≡_};
+ghost use mathlib.Core.Bool.{true};
+ghost use Prim.Native.Nat.{_/_, _≤_};
+ghost use lib.ListN.{length};
+ghost use Rattle.laws.specs.Search.{every};
+ghost use Rattle.model.specs.Rows.{rows, wholeRecords};
+ghost use Rattle.model.specs.Sound.{s1, s2, sound};
+ghost use Rattle.model.specs.Tally.{bookStatus};
+ghost use Rattle.tables.specs.Bucket.{keyBucket, lotBucket};
+ghost use Rattle.tables.specs.Table.{Indexed};
+ghost use Rattle.sound.specs.ByRow.{rowRight};
+use crate::holding::band_apart;
+use crate::holding::holding_right;
+use crate::holding::rates_fit;
+use crate::names::names_known;
+use crate::trade::history_done;
+use crate::trade::history_right;
+use crate::trade::paid_right;
+use crate::trade::request_right;
+use crate::unique::unique;
+use fields::row_fits;
+use model::Status;
+use record::row::Grid;
+use record::row::Row;
+use shelf::place::row_at;
+use tables::table::Slots;
+use tables::table::build;
+use tables::table::narrow;
+
+fn all_fit(book: &[u8]) -> bool
+    ensures { λ r. ⌜ r ≡ s1 (rows (now (book .entry))) ⌝ }
+{
+    let n = book.len() / Grid::SIZE;
+    let mut i = 0;
+    while i < n {
+        if row_fits(row_at(book, i)) {
+            i += 1;
+        } else {
+            return false;
+        }
+    }
+    true
+}
+
+fn right(book: &[u8], keys: &[u16; Slots::ALL], lots: &[u16; Slots::ALL], r: Row) -> bool
+    requires { ⌜ Indexed keyBucket (now book) (now keys) 0 ⌝ }
+    requires { ⌜ Indexed lotBucket (now book) (now lots) 0 ⌝ }
+    requires { ⌜ (s1 (rows (now book)) ≡ true) × (s2 (rows (now book)) ≡ true) ⌝ }
+    ensures { λ b. ⌜ b ≡ rowRight (rows (now (book .entry))) r ⌝ }
+{
+    names_known(book, keys, r)
+        & band_apart(book, keys, r)
+        & rates_fit(book, keys, r)
+        & request_right(book, keys, r)
+        & history_right(book, keys, r)
+        & holding_right(book, keys, lots, r)
+        & paid_right(book, keys, r)
+        & history_done(book, keys, r)
+}
+
+fn all_right(book: &[u8], keys: &[u16; Slots::ALL], lots: &[u16; Slots::ALL]) -> bool
+    requires { ⌜ Indexed keyBucket (now book) (now keys) 0 ⌝ }
+    requires { ⌜ Indexed lotBucket (now book) (now lots) 0 ⌝ }
+    requires { ⌜ (s1 (rows (now book)) ≡ true) × (s2 (rows (now book)) ≡ true) ⌝ }
+    ensures { λ r. ⌜ r ≡ every (rowRight (rows (now (book .entry)))) (rows (now (book .entry))) ⌝ }
+{
+    let n = book.len() / Grid::SIZE;
+    let mut i = 0;
+    while i < n {
+        if right(book, keys, lots, row_at(book, i)) {
+            i += 1;
+        } else {
+            return false;
+        }
+    }
+    true
+}
+
+// The book is sound.
+pub fn sound(book: &[u8]) -> bool
+    requires { ⌜ length (now book) / 64 ≤ 4096 ⌝ }
+    ensures { λ r. ⌜ r ≡ sound (rows (now (book .entry))) ⌝ }
+{
+    if !all_fit(book) {
+        return false;
+    }
+    let none = narrow(book.len() / Grid::SIZE);
+    let mut keys = [none; Slots::ALL];
+    let mut lots = [none; Slots::ALL];
+    build(book, &mut keys, &mut lots);
+    if !unique(book, &keys) {
+        return false;
+    }
+    all_right(book, &keys, &lots)
+}
+
+fn whole(n: usize, most: usize) -> bool
+    requires { ⌜ most ≤ 4096 ⌝ }
+    ensures { λ r. ⌜ r ≡ wholeRecords most n ⌝ }
+{
+    (Grid::SIZE <= n) & (n % Grid::SIZE == 0) & (n <= most * Grid::SIZE)
+}
+
+// The status of any bytes as a book of at most so many records.
+pub fn status(book: &[u8], most: usize) -> Status
+    requires { ⌜ most ≤ 4096 ⌝ }
+    ensures { λ r. ⌜ r ≡ bookStatus most (now (book .entry)) ⌝ }
+{
+    if !whole(book.len(), most) {
+        return Status::BadBook;
+    }
+    if sound(book) {
+        return Status::Done;
+    }
+    Status::Unsound
+}

@@ -1,0 +1,117 @@
+//! `bench [ROUNDS]`: how long a check of soundness takes, by the book's size: the proved one, the second
+//! program's, and a copy of the book's bytes as the yardstick. All are measured in turn, book by book, and
+//! the medians are printed.
+
+use second::gen;
+use second::mutate;
+use second::rng::Rng;
+use second::sound::{self, Rule};
+use std::hint::black_box;
+use std::time::{Duration, Instant};
+
+extern "C" {
+    /// The status of a book, of crates/gauge: C passes a slice as a pointer and a length.
+    fn book_status(book: *const u8, length: usize) -> i32;
+}
+
+const SIZES: [usize; 3] = [64, 512, 4_096];
+const BOOKS: usize = 20;
+const ROUNDS: usize = 15;
+/// A measurement repeats what it measures for about so long, as the clock is coarse.
+const SPAN: Duration = Duration::from_micros(200);
+
+fn proved_status(book: &[u8]) -> i32 {
+    // SAFETY: the pointer and the length are those of a slice, which the function only reads.
+    unsafe { book_status(book.as_ptr(), book.len()) }
+}
+
+/// The three that are measured, each on a book and an area as long.
+const TASKS: [fn(&[u8], &mut [u8]) -> i32; 3] = [
+    |book, area| {
+        area.copy_from_slice(book);
+        black_box(area);
+        0
+    },
+    |book, _| proved_status(book),
+    |book, _| sound::status(book),
+];
+
+/// The seconds that one run takes, as the mean of so many.
+fn measure(task: usize, repeats: u32, book: &[u8], area: &mut [u8]) -> f64 {
+    let start = Instant::now();
+    for _ in 0..repeats {
+        let status = TASKS[task](black_box(book), black_box(area));
+        assert_eq!(black_box(status), 0, "a sound book was refused");
+    }
+    start.elapsed().as_secs_f64() / f64::from(repeats)
+}
+
+fn repeats_for(task: usize, book: &[u8], area: &mut [u8]) -> u32 {
+    measure(task, 3, book, area);
+    let once = measure(task, 3, book, area);
+    (SPAN.as_secs_f64() / once).clamp(1.0, 10_000.0) as u32
+}
+
+fn median(mut times: Vec<f64>) -> f64 {
+    times.sort_by(f64::total_cmp);
+    times[times.len() / 2]
+}
+
+/// Sees that both checks refuse books that are broken in each rule: what is measured is the whole check.
+fn compare(rng: &mut Rng, records: usize) {
+    for rule in Rule::ALL {
+        let mut book = gen::book(rng, records);
+        if mutate::of_rule(rng, rule, &mut book).is_some() {
+            let statuses = [proved_status(&book), sound::status(&book)];
+            assert_eq!(statuses, [-102; 2], "a book that breaks {rule:?}");
+        }
+    }
+}
+
+/// The median times of a copy, of the proved check and of the second program's.
+fn medians(records: usize, rounds: usize) -> [f64; 3] {
+    let mut rng = Rng::new(records as u64);
+    compare(&mut rng, records);
+    let books: Vec<Vec<u8>> = (0..BOOKS).map(|_| gen::book(&mut rng, records)).collect();
+    let mut area = books[0].clone();
+    let repeats = [0, 1, 2].map(|task| repeats_for(task, &books[0], &mut area));
+    let mut times = [Vec::new(), Vec::new(), Vec::new()];
+    for _ in 0..rounds {
+        for book in &books {
+            for task in 0..TASKS.len() {
+                times[task].push(measure(task, repeats[task], book, &mut area));
+            }
+        }
+    }
+    times.map(median)
+}
+
+fn main() {
+    let rounds = match std::env::args().nth(1).map(|word| word.parse()) {
+        None => ROUNDS,
+        Some(Ok(rounds)) if rounds > 0 => rounds,
+        Some(_) => {
+            eprintln!("usage: bench [ROUNDS]");
+            std::process::exit(2);
+        }
+    };
+    println!(
+        "medians of {rounds} rounds over {BOOKS} sound books, in microseconds; ratios to the copy"
+    );
+    println!("records       copy     proved     second   proved:copy   second:copy");
+    let mut proved = Vec::new();
+    for records in SIZES {
+        let [copy, ours, second] = medians(records, rounds);
+        let [a, b, c] = [copy, ours, second].map(|seconds| seconds * 1e6);
+        println!(
+            "{records:7} {a:10.3} {b:10.3} {c:10.3} {:13.1} {:13.1}",
+            b / a,
+            c / a
+        );
+        proved.push(ours);
+    }
+    println!(
+        "proved, 4,096 to 512 records: {:.1} (8 is linear)",
+        proved[2] / proved[1]
+    );
+}
