@@ -3,13 +3,11 @@
 ghost use mathlib.Core.Path.{_≡_};
 ghost use mathlib.Core.Bool.{true};
 ghost use Rattle.laws.specs.Search.{bit};
-ghost use Rattle.record.specs.Codes.{kindLotHistory, kindTrade};
 ghost use Rattle.model.specs.Rows.{rows};
-ghost use Rattle.model.specs.Sound.{cashRight, each, historyRight, requestRight, s2, settled, settlementRight};
+ghost use Rattle.model.specs.Sound.{cashRight, historyRight, requestRight, s2, settled, settlementRight};
 ghost use Rattle.model.specs.Sound.{tradesDone};
 ghost use Rattle.tables.specs.Bucket.{keyBucket};
 ghost use Rattle.tables.specs.Table.{Indexed};
-ghost use Rattle.sound.specs.ByRow.{paidRight};
 ghost use Rattle.sound.specs.Rules.{agreesWith};
 use record::codes::Kind;
 use record::codes::TradeStatus;
@@ -31,7 +29,7 @@ fn agrees(broker: u32, t: Row, r: Row) -> bool
         & (r.party == broker)
 }
 
-fn requested(book: &[u8], keys: &[u16; Slots::ALL], t: Row) -> bool
+pub fn requested(book: &[u8], keys: &[u16; Slots::ALL], t: Row) -> bool
     requires { ⌜ Indexed keyBucket (now book) (now keys) 0 ⌝ }
     requires { ⌜ s2 (rows (now book)) ≡ true ⌝ }
     ensures { λ b. ⌜ b ≡ requestRight (rows (now (book .entry))) t ⌝ }
@@ -44,29 +42,15 @@ fn requested(book: &[u8], keys: &[u16; Slots::ALL], t: Row) -> bool
     (TradeType::TLB <= t.form) & (r.kind == Kind::REQUEST) & agrees(a.n1, t, r)
 }
 
-pub fn request_right(book: &[u8], keys: &[u16; Slots::ALL], r: Row) -> bool
+pub fn historied(book: &[u8], keys: &[u16; Slots::ALL], t: Row) -> bool
     requires { ⌜ Indexed keyBucket (now book) (now keys) 0 ⌝ }
-    requires { ⌜ s2 (rows (now book)) ≡ true ⌝ }
-    ensures { λ b. ⌜ b ≡ each kindTrade (requestRight (rows (now (book .entry)))) r ⌝ }
+    ensures { λ b. ⌜ b ≡ historyRight (rows (now (book .entry))) t ⌝ }
 {
-    if r.kind != Kind::TRADE {
-        return true;
-    }
-    requested(book, keys, r)
+    there(book, keys, Test::History(t.id, t.status))
+        & !there(book, keys, Test::Higher(t.id, t.status))
 }
 
-pub fn history_right(book: &[u8], keys: &[u16; Slots::ALL], r: Row) -> bool
-    requires { ⌜ Indexed keyBucket (now book) (now keys) 0 ⌝ }
-    ensures { λ b. ⌜ b ≡ each kindTrade (historyRight (rows (now (book .entry)))) r ⌝ }
-{
-    if r.kind != Kind::TRADE {
-        return true;
-    }
-    there(book, keys, Test::History(r.id, r.status))
-        & !there(book, keys, Test::Higher(r.id, r.status))
-}
-
-fn trade_settled(book: &[u8], keys: &[u16; Slots::ALL], t: Row) -> bool
+pub fn settled(book: &[u8], keys: &[u16; Slots::ALL], t: Row) -> bool
     requires { ⌜ Indexed keyBucket (now book) (now keys) 0 ⌝ }
     requires { ⌜ s2 (rows (now book)) ≡ true ⌝ }
     ensures { λ b. ⌜ b ≡ settled (rows (now (book .entry))) t ⌝ }
@@ -83,7 +67,7 @@ fn one(b: bool) -> u8
     if b { 1 } else { 0 }
 }
 
-fn settlement_paid(book: &[u8], keys: &[u16; Slots::ALL], s: Row) -> bool
+pub fn paid(book: &[u8], keys: &[u16; Slots::ALL], s: Row) -> bool
     requires { ⌜ Indexed keyBucket (now book) (now keys) 0 ⌝ }
     requires { ⌜ s2 (rows (now book)) ≡ true ⌝ }
     ensures { λ b. ⌜ b ≡ settlementRight (rows (now (book .entry))) s ⌝ }
@@ -93,7 +77,7 @@ fn settlement_paid(book: &[u8], keys: &[u16; Slots::ALL], s: Row) -> bool
     (s.flags == t.flags % 2) & (one(paid) == s.flags)
 }
 
-fn cash_due(book: &[u8], keys: &[u16; Slots::ALL], c: Row) -> bool
+pub fn due(book: &[u8], keys: &[u16; Slots::ALL], c: Row) -> bool
     requires { ⌜ Indexed keyBucket (now book) (now keys) 0 ⌝ }
     ensures { λ b. ⌜ b ≡ cashRight (rows (now (book .entry))) c ⌝ }
 {
@@ -101,30 +85,10 @@ fn cash_due(book: &[u8], keys: &[u16; Slots::ALL], c: Row) -> bool
     (s.flags == 1) & (s.m1 == c.m1)
 }
 
-pub fn paid_right(book: &[u8], keys: &[u16; Slots::ALL], r: Row) -> bool
+pub fn done(book: &[u8], keys: &[u16; Slots::ALL], r: Row) -> bool
     requires { ⌜ Indexed keyBucket (now book) (now keys) 0 ⌝ }
-    requires { ⌜ s2 (rows (now book)) ≡ true ⌝ }
-    ensures { λ b. ⌜ b ≡ paidRight (rows (now (book .entry))) r ⌝ }
+    ensures { λ b. ⌜ b ≡ tradesDone (rows (now (book .entry))) r ⌝ }
 {
-    if r.kind == Kind::TRADE {
-        return trade_settled(book, keys, r);
-    }
-    if r.kind == Kind::SETTLEMENT {
-        return settlement_paid(book, keys, r);
-    }
-    if r.kind == Kind::CASH {
-        return cash_due(book, keys, r);
-    }
-    true
-}
-
-pub fn history_done(book: &[u8], keys: &[u16; Slots::ALL], r: Row) -> bool
-    requires { ⌜ Indexed keyBucket (now book) (now keys) 0 ⌝ }
-    ensures { λ b. ⌜ b ≡ each kindLotHistory (tradesDone (rows (now (book .entry)))) r ⌝ }
-{
-    if r.kind != Kind::LOT_HISTORY {
-        return true;
-    }
     let a = found(book, keys, Test::Id(Kind::TRADE, r.id));
     let b = found(book, keys, Test::Id(Kind::TRADE, r.m2));
     (a.status == TradeStatus::COMPLETED) & (b.status == TradeStatus::COMPLETED)

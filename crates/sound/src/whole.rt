@@ -4,23 +4,28 @@ ghost use mathlib.Core.Bool.{true};
 ghost use Prim.Native.Nat.{_/_, _≤_};
 ghost use lib.ListN.{length};
 ghost use Rattle.laws.specs.Search.{every};
+ghost use Rattle.record.specs.Codes.{kindTrade};
 ghost use Rattle.model.specs.Rows.{rows, wholeRecords};
 ghost use Rattle.model.specs.Sound.{s1, s2, sound};
 ghost use Rattle.model.specs.Tally.{bookStatus};
 ghost use Rattle.tables.specs.Bucket.{keyBucket, lotBucket};
 ghost use Rattle.tables.specs.Table.{Indexed};
-ghost use Rattle.sound.specs.ByRow.{rowRight};
-use crate::holding::band_apart;
-use crate::holding::holding_right;
+ghost use Rattle.sound.specs.ByRow.{kindRight, rowRight};
+use crate::holding::apart;
+use crate::holding::held;
 use crate::holding::rates_fit;
+use crate::holding::summed;
 use crate::names::names_known;
-use crate::trade::history_done;
-use crate::trade::history_right;
-use crate::trade::paid_right;
-use crate::trade::request_right;
+use crate::trade::done;
+use crate::trade::due;
+use crate::trade::historied;
+use crate::trade::paid;
+use crate::trade::requested;
+use crate::trade::settled;
 use crate::unique::unique;
 use fields::row_fits;
 use model::Status;
+use record::codes::Kind;
 use record::row::Grid;
 use record::row::Row;
 use shelf::place::row_at;
@@ -43,20 +48,42 @@ fn all_fit(book: &[u8]) -> bool
     true
 }
 
+fn trade_right(book: &[u8], keys: &[u16; Slots::ALL], t: Row) -> bool
+    requires { ⌜ Indexed keyBucket (now book) (now keys) 0 ⌝ }
+    requires { ⌜ (s2 (rows (now book)) ≡ true) × (t .kind ≡ kindTrade) ⌝ }
+    ensures { λ b. ⌜ b ≡ kindRight (rows (now (book .entry))) t ⌝ }
+{
+    requested(book, keys, t) & historied(book, keys, t) & settled(book, keys, t)
+}
+
+// S4 to S10 of a row.
+fn kind_right(book: &[u8], keys: &[u16; Slots::ALL], lots: &[u16; Slots::ALL], r: Row) -> bool
+    requires { ⌜ Indexed keyBucket (now book) (now keys) 0 ⌝ }
+    requires { ⌜ Indexed lotBucket (now book) (now lots) 0 ⌝ }
+    requires { ⌜ (s1 (rows (now book)) ≡ true) × (s2 (rows (now book)) ≡ true) ⌝ }
+    ensures { λ b. ⌜ b ≡ kindRight (rows (now (book .entry))) r ⌝ }
+{
+    let kind = r.kind;
+    match kind {
+        Kind::CUSTOMER => rates_fit(book, keys, r),
+        Kind::BAND => apart(book, keys, r),
+        Kind::TRADE => trade_right(book, keys, r),
+        Kind::LOT => held(book, keys, lots, r),
+        Kind::SUMMARY => summed(book, lots, r),
+        Kind::LOT_HISTORY => done(book, keys, r),
+        Kind::SETTLEMENT => paid(book, keys, r),
+        Kind::CASH => due(book, keys, r),
+        _ => true,
+    }
+}
+
 fn right(book: &[u8], keys: &[u16; Slots::ALL], lots: &[u16; Slots::ALL], r: Row) -> bool
     requires { ⌜ Indexed keyBucket (now book) (now keys) 0 ⌝ }
     requires { ⌜ Indexed lotBucket (now book) (now lots) 0 ⌝ }
     requires { ⌜ (s1 (rows (now book)) ≡ true) × (s2 (rows (now book)) ≡ true) ⌝ }
     ensures { λ b. ⌜ b ≡ rowRight (rows (now (book .entry))) r ⌝ }
 {
-    names_known(book, keys, r)
-        & band_apart(book, keys, r)
-        & rates_fit(book, keys, r)
-        & request_right(book, keys, r)
-        & history_right(book, keys, r)
-        & holding_right(book, keys, lots, r)
-        & paid_right(book, keys, r)
-        & history_done(book, keys, r)
+    names_known(book, keys, r) & kind_right(book, keys, lots, r)
 }
 
 fn all_right(book: &[u8], keys: &[u16; Slots::ALL], lots: &[u16; Slots::ALL]) -> bool

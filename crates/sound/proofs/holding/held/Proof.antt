@@ -3,13 +3,13 @@ use Rattle.model.specs.Rows.{found, there}
 use Rattle.tables.specs.Tests.{passes}
 use Rattle.sound.specs.Rules.{lot-is}
 use borrow.Author.Needs.{needs}
-use Rattle.sound.proofs.holding.lot_held.Statement.{statement}
-use Rattle.sound.proofs.holding.lot_held.Tie as tie
+use Rattle.sound.proofs.holding.held.Statement.{statement}
+use Rattle.sound.proofs.holding.held.Tie as tie
 
 returns : tie.Need-returns
 unfolding passes found there
 returns c = lot-is _ (c .before .before .before .before .before .before .before .before .before .before .args .l) (c .before .before .before .before .before .before .before .before .found .ensures) (c .before .before .before .before .before .before .before .short .ensures) (c .before .before .before .before .before .before .there .ensures) (c .before .before .before .before .before .there2 .ensures)
 
-pub lot-held-spec : {M : Type 1} → statement M
-lot-held-spec =
+pub held-spec : {M : Type 1} → statement M
+held-spec =
     tie.close (tie.spec (λ c κs. search needs) (λ c κs. search needs) (λ c κs. search needs) (λ c κs. search needs) returns)

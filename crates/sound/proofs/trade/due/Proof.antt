@@ -2,12 +2,12 @@
 use Rattle.model.specs.Rows.{found}
 use Rattle.tables.specs.Tests.{passes}
 use borrow.Author.Needs.{needs}
-use Rattle.sound.proofs.trade.cash_due.Statement.{statement}
-use Rattle.sound.proofs.trade.cash_due.Tie as tie
+use Rattle.sound.proofs.trade.due.Statement.{statement}
+use Rattle.sound.proofs.trade.due.Tie as tie
 
 returns : tie.Need-returns
 unfolding passes found
 returns c = rw (c .before .before .before .found .ensures)
 
-pub cash-due-spec : {M : Type 1} → statement M
-cash-due-spec = tie.close (tie.spec (λ c κs. search needs) returns)
+pub due-spec : {M : Type 1} → statement M
+due-spec = tie.close (tie.spec (λ c κs. search needs) returns)

@@ -2,16 +2,16 @@
 use Rattle.tables.specs.Tests.{passes}
 use Rattle.sound.specs.Rules.{summary-is}
 use borrow.Author.Needs.{needs}
-use Rattle.sound.proofs.holding.summary_summed.Statement.{statement}
-use Rattle.sound.proofs.holding.summary_summed.Tie as tie
+use Rattle.sound.proofs.holding.summed.Statement.{statement}
+use Rattle.sound.proofs.holding.summed.Tie as tie
 
 returns : tie.Need-returns
 unfolding passes
 returns c = summary-is _ (c .before .before .before .before .before .before .args .s) (c .before .before .before .before .there .ensures) (c .before .before .before .shares .ensures .0) (c .before .shares2 .ensures .0) (c .before .before .side .ensures .0)
     (c .side2 .ensures .0)
 
-pub summary-summed-spec : {M : Type 1} → statement M
-summary-summed-spec =
+pub summed-spec : {M : Type 1} → statement M
+summed-spec =
     tie.close
     (tie.spec
     (λ c κs. search needs)
