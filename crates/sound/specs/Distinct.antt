@@ -186,13 +186,13 @@ past n x q j m e f h = go (ltb q m) refl
     go true u = let v = ltb-true q m u in rw u (lt-leb n x (omega arith))
     go false u = let v = ltb-false q m u in rw u (le-leb n x (omega arith))
 
-pub last-kept : (b : List ℕ) (i : ℕ) {r : Row} {k : Key} {x : ℕ} → i < length b / 64 → r ≡ rowAt b i
-    → (r .kind ≡ kindFree → ⊥) → k ≡ keyOf r → x ≡ seek (hasKey k) (i + 1) (drop (i + 1) (rows b))
+pub last-kept : (b : List ℕ) (i : ℕ) {r : Row} {x : ℕ} → i < length b / 64 → r ≡ rowAt b i
+    → (r .kind ≡ kindFree → ⊥) → x ≡ seek (hasKey (keyOf r)) (i + 1) (drop (i + 1) (rows b))
     → leb (length b / 64) x ≡ lastAt b i
-last-kept b i {r} {k} {x} h e f q g =
+last-kept b i {r} {x} h e f g =
     let m = drop (i + 1) (rows b) in
     let p = hasKey (keyOf r) in
-    let there : x ≡ place p m + (i + 1) = g ∙ rw q (seek-shift p (i + 1) m) in
+    let there : x ≡ place p m + (i + 1) = g ∙ seek-shift p (i + 1) m in
     let many : length m ≡ length b / 64 - (i + 1) = length-drop (i + 1) (rows b) ∙ rw length-rows in
     let none = past (length b / 64) x (place p m) (i + 1) (length m) there many (omega arith) in
     rw (← e, ne-eqb (r .kind) kindFree f) (none ∙ rw (none-left (count p m), some-place p m))

@@ -45,14 +45,16 @@ module _ (rs : List Row) (r : Row) where
   unfolding every
   names-one a e h = rw e (h ∙ sym (and-end (there a rs)))
 
-  pub names-two : (a b : Key) {x : Bool} → named r ≡ a ∷ b ∷ [] → x ≡ (there a rs && there b rs) → x ≡ namesKnown rs r
+  pub names-two : (a b : Key) {x y : Bool} → named r ≡ a ∷ b ∷ [] → x ≡ there a rs → y ≡ there b rs
+      → (x && y) ≡ namesKnown rs r
   unfolding every
-  names-two a b e h = rw e (h ∙ rw (and-end (there b rs)))
+  names-two a b e h k = rw e (rw (h, k, and-end (there b rs)))
 
-  pub names-three : (a b c : Key) {x y : Bool} → named r ≡ a ∷ b ∷ c ∷ [] → x ≡ there a rs
-      → y ≡ (there b rs && there c rs) → (x && y) ≡ namesKnown rs r
+  pub names-three : (a b c : Key) {x y z : Bool} → named r ≡ a ∷ b ∷ c ∷ [] → x ≡ there a rs → y ≡ there b rs
+      → z ≡ there c rs → (x && y && z) ≡ namesKnown rs r
   unfolding every
-  names-three a b c e h k = rw e (rw (h, k, and-end (there c rs)))
+  names-three a b c e h k l =
+      rw e (rw (h, k, l, and-end (there c rs)) (sym (and-three (there a rs) (there b rs) (there c rs))))
 
 -- a kind that there is not names no row
 pub no-names : (r : Row) → 17 ≤ r .kind → named r ≡ []

@@ -13,7 +13,7 @@ use tables::sums::rates;
 use tables::sums::shares;
 use tables::sums::side;
 use tables::table::Slots;
-use tables::table::found;
+use tables::table::id_row;
 use tables::table::there;
 use tables::test::Test;
 use tables::test::short;
@@ -37,7 +37,7 @@ pub fn held(book: &[u8], keys: &[u16; Slots::ALL], lots: &[u16; Slots::ALL], l: 
     requires { ⌜ Indexed lotBucket (now book) (now lots) 0 ⌝ }
     ensures { λ b. ⌜ b ≡ lotRight (rows (now (book .entry))) l ⌝ }
 {
-    let t = found(book, keys, Test::Id(Kind::TRADE, l.id));
+    let t = id_row(book, keys, Kind::TRADE, l.id);
     let mixed = there(book, lots, Test::Opposed(l.party, l.symbol, short(l)));
     let summary = there(book, keys, Test::Summary(l.party, l.symbol));
     (t.status == TradeStatus::COMPLETED)

@@ -15,7 +15,9 @@ use record::codes::TradeType;
 use record::row::Row;
 use rules::limited::alike;
 use tables::table::Slots;
-use tables::table::found;
+use tables::table::id_row;
+use tables::table::id_there;
+use tables::table::party_row;
 use tables::table::there;
 use tables::test::Test;
 
@@ -35,10 +37,10 @@ pub fn requested(book: &[u8], keys: &[u16; Slots::ALL], t: Row) -> bool
     ensures { λ b. ⌜ b ≡ requestRight (rows (now (book .entry))) t ⌝ }
 {
     if t.status != TradeStatus::PENDING {
-        return !there(book, keys, Test::Id(Kind::REQUEST, t.id));
+        return !id_there(book, keys, Kind::REQUEST, t.id);
     }
-    let r = found(book, keys, Test::Id(Kind::REQUEST, t.id));
-    let a = found(book, keys, Test::Party(Kind::ACCOUNT, t.party));
+    let r = id_row(book, keys, Kind::REQUEST, t.id);
+    let a = party_row(book, keys, Kind::ACCOUNT, t.party);
     (TradeType::TLB <= t.form) & (r.kind == Kind::REQUEST) & agrees(a.n1, t, r)
 }
 
@@ -56,7 +58,7 @@ pub fn settled(book: &[u8], keys: &[u16; Slots::ALL], t: Row) -> bool
     ensures { λ b. ⌜ b ≡ settled (rows (now (book .entry))) t ⌝ }
 {
     alike(
-        there(book, keys, Test::Id(Kind::SETTLEMENT, t.id)),
+        id_there(book, keys, Kind::SETTLEMENT, t.id),
         t.status == TradeStatus::COMPLETED,
     )
 }
@@ -72,8 +74,8 @@ pub fn paid(book: &[u8], keys: &[u16; Slots::ALL], s: Row) -> bool
     requires { ⌜ s2 (rows (now book)) ≡ true ⌝ }
     ensures { λ b. ⌜ b ≡ settlementRight (rows (now (book .entry))) s ⌝ }
 {
-    let t = found(book, keys, Test::Id(Kind::TRADE, s.id));
-    let paid = there(book, keys, Test::Id(Kind::CASH, s.id));
+    let t = id_row(book, keys, Kind::TRADE, s.id);
+    let paid = id_there(book, keys, Kind::CASH, s.id);
     (s.flags == t.flags % 2) & (one(paid) == s.flags)
 }
 
@@ -81,7 +83,7 @@ pub fn due(book: &[u8], keys: &[u16; Slots::ALL], c: Row) -> bool
     requires { ⌜ Indexed keyBucket (now book) (now keys) 0 ⌝ }
     ensures { λ b. ⌜ b ≡ cashRight (rows (now (book .entry))) c ⌝ }
 {
-    let s = found(book, keys, Test::Id(Kind::SETTLEMENT, c.id));
+    let s = id_row(book, keys, Kind::SETTLEMENT, c.id);
     (s.flags == 1) & (s.m1 == c.m1)
 }
 
@@ -89,7 +91,7 @@ pub fn done(book: &[u8], keys: &[u16; Slots::ALL], r: Row) -> bool
     requires { ⌜ Indexed keyBucket (now book) (now keys) 0 ⌝ }
     ensures { λ b. ⌜ b ≡ tradesDone (rows (now (book .entry))) r ⌝ }
 {
-    let a = found(book, keys, Test::Id(Kind::TRADE, r.id));
-    let b = found(book, keys, Test::Id(Kind::TRADE, r.m2));
+    let a = id_row(book, keys, Kind::TRADE, r.id);
+    let b = id_row(book, keys, Kind::TRADE, r.m2);
     (a.status == TradeStatus::COMPLETED) & (b.status == TradeStatus::COMPLETED)
 }

@@ -8,7 +8,6 @@ ghost use Rattle.tables.specs.Bucket.{keyBucket};
 ghost use Rattle.tables.specs.Table.{Indexed};
 ghost use Rattle.sound.specs.Distinct.{lastAt};
 use record::codes::Kind;
-use record::key::Key;
 use record::row::Grid;
 use shelf::place::row_at;
 use tables::table::Slots;
@@ -24,7 +23,7 @@ fn last(book: &[u8], keys: &[u16; Slots::ALL], i: usize) -> bool
     if row.kind == Kind::FREE {
         return true;
     }
-    book.len() / Grid::SIZE <= again(book, keys, i, Key::of(row))
+    book.len() / Grid::SIZE <= again(book, keys, i, row)
 }
 
 pub fn unique(book: &[u8], keys: &[u16; Slots::ALL]) -> bool

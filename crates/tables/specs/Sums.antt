@@ -13,15 +13,16 @@ use mir.Facts.{toZ-pos}
 use mir.Syntax.{w64}
 use mir.Val.{toZ}
 use borrow.Author.Tests.{eqb-true, leb-true, leb-false, le-leb, le-ltb}
-use Rattle.laws.specs.Search.{bit, sumZ, the, total}
+use Rattle.laws.specs.Search.{bit, sumZ, total}
 use Rattle.laws.specs.Tests.{and-left, and-right}
-use Rattle.record.specs.Codes.{kindBand, kindCustomerRate, kindLot, kindTaxRate}
+use Rattle.record.specs.Codes.{kindBand, kindCustomerRate, kindLot}
 use Rattle.record.specs.Key.{keyOf}
 use Rattle.record.specs.Signed.{up, dn, parts-add, leZ-is, toZ-high}
 use Rattle.record.specs.declared.row.Row.{Row}
 use Rattle.rules.specs.Meaning.{means-lot}
 use Rattle.rules.specs.Ranges.{sharesMost}
 use Rattle.rules.specs.Rules.{as-kind, fits}
+use Rattle.model.specs.Names.{aTaxRate}
 use Rattle.model.specs.Rows.{found, is, nothing, rows}
 use Rattle.model.specs.Sound.{lotOf, overlaps, rateOf, s1, sharesOf}
 use Rattle.shelf.specs.Rows.{length-rows, rowAt}
@@ -29,8 +30,7 @@ use Rattle.tables.specs.Bucket.{bucketOf, keyBucket, lotBucket}
 use Rattle.tables.specs.Names.{ofParty}
 use Rattle.laws.specs.Place.{every-at}
 use Rattle.tables.specs.Table.{Counted}
-use Rattle.tables.specs.Tests.{Keyed, lot-bucket, passes}
-use Rattle.tables.specs.declared.test.Test.the-variants.{Party}
+use Rattle.tables.specs.Tests.{Keyed, lot-bucket}
 
 -- what f gives of the rows of p, and nothing of any other, is counted by their number
 only-keyed : (g : Row → ℕ) (p : Row → Bool) (f : Row → ℕ) (m k : ℕ) → Keyed g p k
@@ -78,8 +78,7 @@ rates-counted rs customer =
     (bucketOf kindCustomerRate 0 0 customer 0 0) (record { all = rate-bucket customer }) (λ r q. rw q)
 
 pub rate-yes : (rs : List Row) (customer : ℕ) (r : Row) {x : ℕ} {t : Row} → ofParty kindCustomerRate customer r ≡ true
-    → t ≡ the (passes (Party kindTaxRate (r .n1))) nothing rs → x ≡ t .n1 → x ≡ rateOf rs customer r
-unfolding passes found
+    → t ≡ found (aTaxRate (r .n1)) rs → x ≡ t .n1 → x ≡ rateOf rs customer r
 rate-yes rs customer r e h q = rw e (q ∙ ap (λ (u : Row). u .n1) h)
 
 pub rate-no : (rs : List Row) (customer : ℕ) (r : Row) → ofParty kindCustomerRate customer r ≡ false

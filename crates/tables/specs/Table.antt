@@ -11,18 +11,18 @@ use lib.ListN.{length, drop, getD, set, replicate, length-set, length-replicate,
 use lib.Dec.{leb, ltb}
 use borrow.Author.Tests.{eq-eqb, eqb-true, eqb-false}
 use Rattle.laws.specs.Chain.{Chained, chain-start, chain-more, numbered}
-use Rattle.laws.specs.Search.{count, place, seek, the, total}
+use Rattle.laws.specs.Search.{count, place, seek, total}
 use Rattle.laws.specs.Walk.{from, from-high, from-holds, from-low, from-passes, from-skips, left-next, left-none}
 use Rattle.record.specs.Key.{keyOf}
 use Rattle.record.specs.KeyLaws.{same-keys}
 use Rattle.record.specs.declared.key.Key.{Key}
 use Rattle.record.specs.declared.row.Row.{Row}
-use Rattle.model.specs.Rows.{hasKey, mostRecords, nothing, rows}
+use Rattle.model.specs.Rows.{found, hasKey, mostRecords, nothing, rows, there}
 use Rattle.shelf.specs.Loop.{Sought, seek-found, seek-more, seek-none}
 use Rattle.shelf.specs.Rows.{length-rows, rowAt}
 use Rattle.tables.specs.Bucket.{bucketOfKey, keyBucket}
 use Rattle.laws.specs.Place.{some-place, the-place}
-use Rattle.tables.specs.Tests.{Keyed, test-keyed}
+use Rattle.tables.specs.Tests.{Keyed, id-keyed, party-keyed, symbol-keyed, test-keyed}
 
 -- the heads of the buckets, and after them a link for each place
 abbrev pub headCount : ℕ
@@ -157,19 +157,26 @@ pub there-is : (p : Row → Bool) (b : List ℕ) {x : ℕ} → x ≡ place p (ro
     → ltb x (length b / 64) ≡ leb 1 (count p (rows b))
 there-is p b e = rw (e, ← length-rows b) (sym (some-place p (rows b)))
 
-pub found-is : (p : Row → Bool) (b : List ℕ) {x : ℕ} {r : Row} → x ≡ place p (rows b) → r ≡ rowAt b x
-    → r ≡ the p nothing (rows b)
-found-is p b e h = h ∙ rw e (sym (the-place p nothing (rows b)))
+pub key-there : (k : Key) (b : List ℕ) {x : ℕ} → x ≡ place (hasKey k) (rows b)
+    → ltb x (length b / 64) ≡ there k (rows b)
+unfolding there
+key-there k b e = there-is (hasKey k) b e
+
+pub key-row : (k : Key) (b : List ℕ) {x : ℕ} {r : Row} → x ≡ place (hasKey k) (rows b) → r ≡ rowAt b x
+    → r ≡ found k (rows b)
+unfolding found
+key-row k b e h = h ∙ rw e (sym (the-place (hasKey k) nothing (rows b)))
 
 key-keyed : (k : Key) → Keyed keyBucket (hasKey k) (bucketOfKey k)
 unfolding keyBucket hasKey
 key-keyed k = record { all = λ r e. ap bucketOfKey (same-keys (keyOf r) k e) }
 
-pub probe-again : {b table : List ℕ} → Indexed keyBucket b table 0 → {i c : ℕ} {k : Key} → k ≡ keyOf (rowAt b i)
+pub probe-again : {b table : List ℕ} → Indexed keyBucket b table 0 → {i c : ℕ} {r : Row} → r ≡ rowAt b i
     → i < length b / 64 → c ≡ getD table (headCount + i) 0
-    → Probed keyBucket (hasKey k) (bucketOfKey k) b (seek (hasKey k) (i + 1) (drop (i + 1) (rows b))) c
+    → Probed keyBucket (hasKey (keyOf r)) (keyBucket r) b (seek (hasKey (keyOf r)) (i + 1) (drop (i + 1) (rows b))) c
 unfolding keyBucket
-probe-again {b} s {i} {c} {k} e h f = probe-after s (hasKey k) (key-keyed k) (ap bucketOfKey (sym e)) h f
+probe-again s {r = r} e h f =
+    probe-after s (hasKey (keyOf r)) (key-keyed (keyOf r)) (ap (λ (x : Row). bucketOfKey (keyOf x)) (sym e)) h f
 
 -- ---- a sum
 -- f counts nothing of the rows of another number than k; m, the most that it counts of a row, is carried along
@@ -243,9 +250,10 @@ pub ruleset tables = (
   probe-found,
   probe-none,
   probe-more,
-  there-is,
-  found-is,
   test-keyed,
+  id-keyed,
+  party-keyed,
+  symbol-keyed,
   tally-start,
   tally-more,
   tally-all,

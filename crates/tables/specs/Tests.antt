@@ -13,16 +13,12 @@ use Rattle.model.specs.Names.{aHistory, aSecurity, aSummary, byId, byParty}
 use Rattle.model.specs.Rows.{hasKey, is}
 use Rattle.model.specs.Sound.{lotOf, short}
 use Rattle.tables.specs.declared.test.Test.{Test}
-use Rattle.tables.specs.declared.test.Test.the-variants.{Id, Party, Security, Summary, History, Higher}
-use Rattle.tables.specs.declared.test.Test.the-variants.{Held, Opposed}
+use Rattle.tables.specs.declared.test.Test.the-variants.{Summary, History, Higher, Held, Opposed}
 use Rattle.tables.specs.Bucket.{bucketOf, keyBucket, lotBucket}
 use Rattle.tables.specs.Names.{by-holder, by-id, by-party, by-status, by-symbol, idKinds, of-four, ofId}
 use Rattle.tables.specs.Names.{partyKinds}
 
 unfoldable pub passes : Test → Row → Bool
-passes (Id k i) = hasKey (byId k i)
-passes (Party k p) = hasKey (byParty k p)
-passes (Security s) = hasKey (aSecurity s)
 passes (Summary a s) = hasKey (aSummary a s)
 passes (History i s) = hasKey (aHistory i s)
 passes (Higher i s) = λ r. ofId kindTradeHistory i r && ltb s (r .status)
@@ -33,21 +29,7 @@ pub as-test : {t u : Test} (r : Row) {x y : Bool} → x ≡ y → y ≡ passes u
 as-test r e h q = e ∙ h ∙ ap (λ (v : Test). passes v r) (sym q)
 
 -- ---- in which bucket of which table a test looks
--- a number by itself names a row of the kind
-abbrev pub proper : Test → Bool
-proper (Id k i) = among k idKinds
-proper (Party k p) = among k partyKinds
-proper (Security s) = true
-proper (Summary a s) = true
-proper (History i s) = true
-proper (Higher i s) = true
-proper (Held a s) = true
-proper (Opposed a s x) = true
-
 abbrev pub by : Test → Row → ℕ
-by (Id k i) = keyBucket
-by (Party k p) = keyBucket
-by (Security s) = keyBucket
 by (Summary a s) = keyBucket
 by (History i s) = keyBucket
 by (Higher i s) = keyBucket
@@ -55,9 +37,6 @@ by (Held a s) = lotBucket
 by (Opposed a s x) = lotBucket
 
 unfoldable pub bucketFor : Test → ℕ
-bucketFor (Id k i) = bucketOf k 0 0 0 i 0
-bucketFor (Party k p) = bucketOf k 0 0 p 0 0
-bucketFor (Security s) = bucketOf kindSecurity 0 0 0 0 s
 bucketFor (Summary a s) = bucketOf kindSummary 0 0 a 0 s
 bucketFor (History i s) = bucketOf kindTradeHistory 0 0 0 i 0
 bucketFor (Higher i s) = bucketOf kindTradeHistory 0 0 0 i 0
@@ -103,23 +82,39 @@ history-bucket : (i : ℕ) (r : Row) → (is kindTradeHistory r && eqb (r .id) i
 unfolding keyBucket keyOf
 history-bucket i r e = let h = both-eq (r .kind) kindTradeHistory (r .id) i e in rw (h .0, h .1)
 
-in-bucket : (t : Test) → proper t ≡ true → (r : Row) → passes t r ≡ true → by t r ≡ bucketFor t
+in-bucket : (t : Test) (r : Row) → passes t r ≡ true → by t r ≡ bucketFor t
 unfolding passes bucketFor keyBucket keyOf
-in-bucket (Id k i) q r e = let h = both-eq (r .kind) k (r .id) i (sym (by-id k q i r) ∙ e) in id-bucket k q r (h .0) ∙ rw (h .1)
-in-bucket (Party k p) q r e = let h = both-eq (r .kind) k (r .party) p (sym (by-party k q p r) ∙ e) in party-bucket k q r (h .0) ∙ rw (h .1)
-in-bucket (Security s) q r e = let h = both-eq (r .kind) kindSecurity (r .symbol) s (sym (by-symbol s r) ∙ e) in rw (h .0, h .1)
-in-bucket (Summary a s) q r e =
+in-bucket (Summary a s) r e =
     let x = is kindSummary r && eqb (r .party) a in
     let f = sym (by-holder a s r) ∙ e in
     let h = both-eq (r .kind) kindSummary (r .party) a (and-left x (eqb (r .symbol) s) f) in
     rw (h .0, h .1, eqb-true (r .symbol) s (and-right x (eqb (r .symbol) s) f))
-in-bucket (History i s) q r e =
+in-bucket (History i s) r e =
     history-bucket i r
     (and-left (is kindTradeHistory r && eqb (r .id) i) (eqb (r .status) s) (sym (by-status i s r) ∙ e))
-in-bucket (Higher i s) q r e =
+in-bucket (Higher i s) r e =
     history-bucket i r (and-left (is kindTradeHistory r && eqb (r .id) i) (ltb s (r .status)) e)
-in-bucket (Held a s) q r e = lot-bucket a s r e
-in-bucket (Opposed a s x) q r e = lot-bucket a s r (and-left (lotOf a s r) (not (x ⇔ short r)) e)
+in-bucket (Held a s) r e = lot-bucket a s r e
+in-bucket (Opposed a s x) r e = lot-bucket a s r (and-left (lotOf a s r) (not (x ⇔ short r)) e)
 
-pub test-keyed : (t : Test) → proper t ≡ true → Keyed (by t) (passes t) (bucketFor t)
-test-keyed t q = record { all = in-bucket t q }
+pub test-keyed : (t : Test) → Keyed (by t) (passes t) (bucketFor t)
+test-keyed t = record { all = in-bucket t }
+
+-- the same for the keys of one field
+pub id-keyed : (k i : ℕ) → among k idKinds ≡ true → Keyed keyBucket (hasKey (byId k i)) (bucketOf k 0 0 0 i 0)
+id-keyed k i q = record {
+  all = λ r e. let h = both-eq (r .kind) k (r .id) i (sym (by-id k q i r) ∙ e) in id-bucket k q r (h .0) ∙ rw (h .1);
+}
+
+pub party-keyed : (k p : ℕ) → among k partyKinds ≡ true → Keyed keyBucket (hasKey (byParty k p)) (bucketOf k 0 0 p 0 0)
+party-keyed k p q = record {
+  all = λ r e.
+      let h = both-eq (r .kind) k (r .party) p (sym (by-party k q p r) ∙ e) in party-bucket k q r (h .0) ∙ rw (h .1);
+}
+
+symbol-bucket : (s : ℕ) (r : Row) → hasKey (aSecurity s) r ≡ true → keyBucket r ≡ bucketOf kindSecurity 0 0 0 0 s
+unfolding keyBucket keyOf
+symbol-bucket s r e = let h = both-eq (r .kind) kindSecurity (r .symbol) s (sym (by-symbol s r) ∙ e) in rw (h .0, h .1)
+
+pub symbol-keyed : (s : ℕ) → Keyed keyBucket (hasKey (aSecurity s)) (bucketOf kindSecurity 0 0 0 0 s)
+symbol-keyed s = record { all = symbol-bucket s }

@@ -11,9 +11,8 @@ ghost use Rattle.tables.specs.Sums.{sharesPart, side};
 ghost use Rattle.tables.specs.Table.{Indexed};
 use crate::bucket::bucket;
 use crate::table::Slots;
-use crate::table::found;
+use crate::table::party_row;
 use crate::table::wide;
-use crate::test::Test;
 use crate::test::held;
 use record::codes::Kind;
 use record::row::Grid;
@@ -65,7 +64,7 @@ fn rate(book: &[u8], keys: &[u16; Slots::ALL], customer: u32, row: Row) -> u64
     ensures { λ r. ⌜ (r ≡ rateOf (rows (now (book .entry))) customer row) × (r ≤ 4294967295) ⌝ }
 {
     if (row.kind == Kind::CUSTOMER_RATE) & (row.party == customer) {
-        return wide32(found(book, keys, Test::Party(Kind::TAX_RATE, row.n1)).n1);
+        return wide32(party_row(book, keys, Kind::TAX_RATE, row.n1).n1);
     }
     0
 }

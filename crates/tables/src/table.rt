@@ -4,18 +4,23 @@ ghost use mathlib.Core.Bool.{true};
 ghost use lib.Dec.{leb};
 ghost use Prim.Native.Nat.{_+_, _/_, _<_, _≤_};
 ghost use lib.ListN.{drop, length};
-ghost use Rattle.laws.specs.Search.{count, place, seek, the};
-ghost use Rattle.record.specs.Key.{keyOf};
-ghost use Rattle.model.specs.Rows.{hasKey, nothing, rows};
+ghost use Rattle.laws.specs.Search.{count, place, seek};
+ghost use Rattle.record.specs.Key.{among, keyOf};
+ghost use Rattle.model.specs.Names.{aSecurity, byId, byParty};
+ghost use Rattle.model.specs.Rows.{found, hasKey, rows, there};
 ghost use Rattle.shelf.specs.Rows.{rowAt};
 ghost use Rattle.tables.specs.Bucket.{keyBucket, lotBucket};
+ghost use Rattle.tables.specs.Names.{idKinds, partyKinds};
 ghost use Rattle.tables.specs.Table.{Blank, Indexed};
-ghost use Rattle.tables.specs.Tests.{bucketFor, by, passes, proper};
+ghost use Rattle.tables.specs.Tests.{bucketFor, by, passes};
 use crate::bucket::bucket;
 use crate::bucket::key_bucket;
 use crate::bucket::lot_bucket;
 use crate::test::Test;
+use crate::test::of_id;
+use crate::test::of_party;
 use crate::test::passes;
+use crate::test::security;
 use record::codes::Kind;
 use record::key::Key;
 use record::row::Grid;
@@ -72,9 +77,6 @@ fn bucket_for(t: Test) -> usize
     ensures { λ r. ⌜ (r ≡ bucketFor t) × (r < 8193) ⌝ }
 {
     match t {
-        Test::Id(kind, id) => bucket(kind, 0, 0, 0, id, 0),
-        Test::Party(kind, party) => bucket(kind, 0, 0, party, 0, 0),
-        Test::Security(symbol) => bucket(Kind::SECURITY, 0, 0, 0, 0, symbol),
         Test::Summary(account, symbol) => bucket(Kind::SUMMARY, 0, 0, account, 0, symbol),
         Test::History(id, _) => bucket(Kind::TRADE_HISTORY, 0, 0, 0, id, 0),
         Test::Higher(id, _) => bucket(Kind::TRADE_HISTORY, 0, 0, 0, id, 0),
@@ -83,10 +85,63 @@ fn bucket_for(t: Test) -> usize
     }
 }
 
+// The searches that are made most often, each by its own loop.
+fn by_id(book: &[u8], keys: &[u16; Slots::ALL], kind: u8, id: u64) -> usize
+    requires { ⌜ Indexed keyBucket (now book) (now keys) 0 ⌝ }
+    requires { ⌜ among kind idKinds ≡ true ⌝ }
+    ensures { λ r. ⌜ r ≡ place (hasKey (byId kind id)) (rows (now (book .entry))) ⌝ }
+{
+    let n = book.len() / Grid::SIZE;
+    let h = bucket(kind, 0, 0, 0, id, 0);
+    let mut c = wide(keys[h]);
+    while c < n {
+        if of_id(kind, id, row_at(book, c)) {
+            return c;
+        }
+        let s = Slots::HEADS + c;
+        c = wide(keys[s]);
+    }
+    c
+}
+
+fn by_party(book: &[u8], keys: &[u16; Slots::ALL], kind: u8, party: u32) -> usize
+    requires { ⌜ Indexed keyBucket (now book) (now keys) 0 ⌝ }
+    requires { ⌜ among kind partyKinds ≡ true ⌝ }
+    ensures { λ r. ⌜ r ≡ place (hasKey (byParty kind party)) (rows (now (book .entry))) ⌝ }
+{
+    let n = book.len() / Grid::SIZE;
+    let h = bucket(kind, 0, 0, party, 0, 0);
+    let mut c = wide(keys[h]);
+    while c < n {
+        if of_party(kind, party, row_at(book, c)) {
+            return c;
+        }
+        let s = Slots::HEADS + c;
+        c = wide(keys[s]);
+    }
+    c
+}
+
+fn by_symbol(book: &[u8], keys: &[u16; Slots::ALL], symbol: u64) -> usize
+    requires { ⌜ Indexed keyBucket (now book) (now keys) 0 ⌝ }
+    ensures { λ r. ⌜ r ≡ place (hasKey (aSecurity symbol)) (rows (now (book .entry))) ⌝ }
+{
+    let n = book.len() / Grid::SIZE;
+    let h = bucket(Kind::SECURITY, 0, 0, 0, 0, symbol);
+    let mut c = wide(keys[h]);
+    while c < n {
+        if security(symbol, row_at(book, c)) {
+            return c;
+        }
+        let s = Slots::HEADS + c;
+        c = wide(keys[s]);
+    }
+    c
+}
+
 // The place of the first row that passes, the number of records where none does.
-pub fn first(book: &[u8], table: &[u16; Slots::ALL], test: Test) -> usize
+fn first(book: &[u8], table: &[u16; Slots::ALL], test: Test) -> usize
     requires { ⌜ Indexed (by test) (now book) (now table) 0 ⌝ }
-    requires { ⌜ proper test ≡ true ⌝ }
     ensures { λ r. ⌜ r ≡ place (passes test) (rows (now (book .entry))) ⌝ }
 {
     let n = book.len() / Grid::SIZE;
@@ -105,32 +160,69 @@ pub fn first(book: &[u8], table: &[u16; Slots::ALL], test: Test) -> usize
 // Some row passes.
 pub fn there(book: &[u8], table: &[u16; Slots::ALL], test: Test) -> bool
     requires { ⌜ Indexed (by test) (now book) (now table) 0 ⌝ }
-    requires { ⌜ proper test ≡ true ⌝ }
     ensures { λ r. ⌜ r ≡ leb 1 (count (passes test) (rows (now (book .entry)))) ⌝ }
 {
     first(book, table, test) < book.len() / Grid::SIZE
 }
 
-// The first row that passes, nothing where none does.
-pub fn found(book: &[u8], table: &[u16; Slots::ALL], test: Test) -> Row
-    requires { ⌜ Indexed (by test) (now book) (now table) 0 ⌝ }
-    requires { ⌜ proper test ≡ true ⌝ }
-    ensures { λ r. ⌜ r ≡ the (passes test) nothing (rows (now (book .entry))) ⌝ }
+pub fn id_there(book: &[u8], keys: &[u16; Slots::ALL], kind: u8, id: u64) -> bool
+    requires { ⌜ Indexed keyBucket (now book) (now keys) 0 ⌝ }
+    requires { ⌜ among kind idKinds ≡ true ⌝ }
+    ensures { λ r. ⌜ r ≡ there (byId kind id) (rows (now (book .entry))) ⌝ }
 {
-    row_at(book, first(book, table, test))
+    by_id(book, keys, kind, id) < book.len() / Grid::SIZE
+}
+
+// The row of a number, nothing where there is none.
+pub fn id_row(book: &[u8], keys: &[u16; Slots::ALL], kind: u8, id: u64) -> Row
+    requires { ⌜ Indexed keyBucket (now book) (now keys) 0 ⌝ }
+    requires { ⌜ among kind idKinds ≡ true ⌝ }
+    ensures { λ r. ⌜ r ≡ found (byId kind id) (rows (now (book .entry))) ⌝ }
+{
+    row_at(book, by_id(book, keys, kind, id))
+}
+
+pub fn party_there(book: &[u8], keys: &[u16; Slots::ALL], kind: u8, party: u32) -> bool
+    requires { ⌜ Indexed keyBucket (now book) (now keys) 0 ⌝ }
+    requires { ⌜ among kind partyKinds ≡ true ⌝ }
+    ensures { λ r. ⌜ r ≡ there (byParty kind party) (rows (now (book .entry))) ⌝ }
+{
+    by_party(book, keys, kind, party) < book.len() / Grid::SIZE
+}
+
+pub fn party_row(book: &[u8], keys: &[u16; Slots::ALL], kind: u8, party: u32) -> Row
+    requires { ⌜ Indexed keyBucket (now book) (now keys) 0 ⌝ }
+    requires { ⌜ among kind partyKinds ≡ true ⌝ }
+    ensures { λ r. ⌜ r ≡ found (byParty kind party) (rows (now (book .entry))) ⌝ }
+{
+    row_at(book, by_party(book, keys, kind, party))
+}
+
+pub fn security_there(book: &[u8], keys: &[u16; Slots::ALL], symbol: u64) -> bool
+    requires { ⌜ Indexed keyBucket (now book) (now keys) 0 ⌝ }
+    ensures { λ r. ⌜ r ≡ there (aSecurity symbol) (rows (now (book .entry))) ⌝ }
+{
+    by_symbol(book, keys, symbol) < book.len() / Grid::SIZE
+}
+
+// The second row has the key of the first.
+fn twin(row: Row, other: Row) -> bool
+    ensures { λ r. ⌜ r ≡ hasKey (keyOf row) other ⌝ }
+{
+    named(Key::of(row), other)
 }
 
 // The next place after i with the key of the row at i, the number of records where there is none.
-pub fn again(book: &[u8], keys: &[u16; Slots::ALL], i: usize, key: Key) -> usize
+pub fn again(book: &[u8], keys: &[u16; Slots::ALL], i: usize, row: Row) -> usize
     requires { ⌜ Indexed keyBucket (now book) (now keys) 0 ⌝ }
-    requires { ⌜ (i < length (now book) / 64) × (key ≡ keyOf (rowAt (now book) i)) ⌝ }
-    ensures { λ r. ⌜ r ≡ seek (hasKey key) (i + 1) (drop (i + 1) (rows (now (book .entry)))) ⌝ }
+    requires { ⌜ (i < length (now book) / 64) × (row ≡ rowAt (now book) i) ⌝ }
+    ensures { λ r. ⌜ r ≡ seek (hasKey (keyOf row)) (i + 1) (drop (i + 1) (rows (now (book .entry)))) ⌝ }
 {
     let n = book.len() / Grid::SIZE;
     let t = Slots::HEADS + i;
     let mut c = wide(keys[t]);
     while c < n {
-        if named(key, row_at(book, c)) {
+        if twin(row, row_at(book, c)) {
             return c;
         }
         let s = Slots::HEADS + c;

@@ -1,22 +1,20 @@
 // What a row is looked for by.
 ghost use mathlib.Core.Path.{_≡_};
 ghost use mathlib.Core.Bool.{not, true, _&&_};
-ghost use lib.Dec.{eqb, ltb};
+ghost use lib.Dec.{ltb};
 ghost use Rattle.laws.specs.Tests.{_⇔_};
-ghost use Rattle.record.specs.Codes.{kindSecurity, kindSummary, kindTradeHistory};
+ghost use Rattle.record.specs.Codes.{kindTradeHistory};
+ghost use Rattle.record.specs.Key.{among};
+ghost use Rattle.model.specs.Names.{aHistory, aSecurity, aSummary, byId, byParty};
+ghost use Rattle.model.specs.Rows.{hasKey};
 ghost use Rattle.model.specs.Sound.{lotOf, short};
-ghost use Rattle.tables.specs.Names.{ofId, ofParty, ofSymbol};
-ghost use Rattle.tables.specs.Tests.{passes, proper};
+ghost use Rattle.tables.specs.Names.{idKinds, ofId, partyKinds};
+ghost use Rattle.tables.specs.Tests.{passes};
 use record::codes::Kind;
 use record::row::Row;
 use rules::limited::alike;
 
 pub enum Test {
-    // a trade, request, settlement or cash row by its number
-    Id(u8, u64),
-    // a broker, customer, tax rate or account by its number
-    Party(u8, u32),
-    Security(u64),
     Summary(u32, u64),
     // a trade's history of a status, and of a status above it
     History(u64, u8),
@@ -39,32 +37,36 @@ pub fn held(account: u32, symbol: u64, r: Row) -> bool
     (r.kind == Kind::LOT) & (r.party == account) & (r.symbol == symbol)
 }
 
-fn of_id(kind: u8, id: u64, r: Row) -> bool
-    ensures { λ b. ⌜ b ≡ ofId kind id r ⌝ }
+// A trade, request, settlement or cash row by its number.
+pub fn of_id(kind: u8, id: u64, r: Row) -> bool
+    requires { ⌜ among kind idKinds ≡ true ⌝ }
+    ensures { λ b. ⌜ b ≡ hasKey (byId kind id) r ⌝ }
 {
     (r.kind == kind) & (r.id == id)
 }
 
-fn of_party(kind: u8, party: u32, r: Row) -> bool
-    ensures { λ b. ⌜ b ≡ ofParty kind party r ⌝ }
+// A broker, customer, tax rate or account by its number.
+pub fn of_party(kind: u8, party: u32, r: Row) -> bool
+    requires { ⌜ among kind partyKinds ≡ true ⌝ }
+    ensures { λ b. ⌜ b ≡ hasKey (byParty kind party) r ⌝ }
 {
     (r.kind == kind) & (r.party == party)
 }
 
-fn security(symbol: u64, r: Row) -> bool
-    ensures { λ b. ⌜ b ≡ ofSymbol kindSecurity symbol r ⌝ }
+pub fn security(symbol: u64, r: Row) -> bool
+    ensures { λ b. ⌜ b ≡ hasKey (aSecurity symbol) r ⌝ }
 {
     (r.kind == Kind::SECURITY) & (r.symbol == symbol)
 }
 
 fn summary(account: u32, symbol: u64, r: Row) -> bool
-    ensures { λ b. ⌜ b ≡ (ofParty kindSummary account r && eqb (r .symbol) symbol) ⌝ }
+    ensures { λ b. ⌜ b ≡ hasKey (aSummary account symbol) r ⌝ }
 {
     (r.kind == Kind::SUMMARY) & (r.party == account) & (r.symbol == symbol)
 }
 
 fn history(id: u64, status: u8, r: Row) -> bool
-    ensures { λ b. ⌜ b ≡ (ofId kindTradeHistory id r && eqb (r .status) status) ⌝ }
+    ensures { λ b. ⌜ b ≡ hasKey (aHistory id status) r ⌝ }
 {
     (r.kind == Kind::TRADE_HISTORY) & (r.id == id) & (r.status == status)
 }
@@ -82,13 +84,9 @@ fn opposed(account: u32, symbol: u64, sold: bool, r: Row) -> bool
 }
 
 pub fn passes(t: Test, r: Row) -> bool
-    requires { ⌜ proper t ≡ true ⌝ }
     ensures { λ b. ⌜ b ≡ passes t r ⌝ }
 {
     match t {
-        Test::Id(kind, id) => of_id(kind, id, r),
-        Test::Party(kind, party) => of_party(kind, party, r),
-        Test::Security(symbol) => security(symbol, r),
         Test::Summary(account, symbol) => summary(account, symbol, r),
         Test::History(id, status) => history(id, status, r),
         Test::Higher(id, status) => higher(id, status, r),

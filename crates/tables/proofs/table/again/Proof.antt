@@ -3,19 +3,21 @@
 use Prim.Native.Nat.{_+_, _-_}
 use lib.ListN.{drop}
 use Rattle.laws.specs.Search.{seek}
+use Rattle.record.specs.Key.{keyOf}
 use Rattle.model.specs.Rows.{hasKey, rows}
-use Rattle.tables.specs.Bucket.{bucketOfKey, keyBucket}
+use Rattle.tables.specs.Bucket.{keyBucket}
 use borrow.Author.Needs.{needs}
 use Rattle.tables.specs.Table.{Probed, tables}
 use Rattle.tables.proofs.table.again.Statement.{statement}
 use Rattle.tables.proofs.table.again.Tie as tie
 
 abbrev Inv-loop : tie.InvT-loop
-Inv-loop book keys i key n t c₀ c =
-    Probed keyBucket (hasKey key) (bucketOfKey key) book (seek (hasKey key) (i + 1) (drop (i + 1) (rows book))) c
+Inv-loop book keys i row n t c₀ c =
+    Probed keyBucket (hasKey (keyOf row)) (keyBucket row) book
+    (seek (hasKey (keyOf row)) (i + 1) (drop (i + 1) (rows book))) c
 
 abbrev μ-loop : tie.MeasureT-loop
-μ-loop book keys i key n t c₀ c = n - c
+μ-loop book keys i row n t c₀ c = n - c
 
 pub again-spec : {M : Type 1} → statement M
 again-spec =

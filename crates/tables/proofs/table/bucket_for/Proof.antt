@@ -24,18 +24,6 @@ returns-5 : tie.Need-returns-5
 unfolding bucketFor
 returns-5 c = (cc, c .bucket5 .ensures .1)
 
-returns-6 : tie.Need-returns-6
-unfolding bucketFor
-returns-6 c = (cc, c .bucket6 .ensures .1)
-
-returns-7 : tie.Need-returns-7
-unfolding bucketFor
-returns-7 c = (cc, c .bucket7 .ensures .1)
-
-returns-8 : tie.Need-returns-8
-unfolding bucketFor
-returns-8 c = (cc, c .bucket8 .ensures .1)
-
 pub bucket-for-spec : {M : Type 1} → statement M
 bucket-for-spec =
     tie.close
@@ -50,17 +38,8 @@ bucket-for-spec =
     (λ c κs. search needs)
     (λ c. search needs)
     (λ c κs. search needs)
-    (λ c. search needs)
-    (λ c κs. search needs)
-    (λ c. search needs)
-    (λ c κs. search needs)
-    (λ c. search needs)
-    (λ c κs. search needs)
     returns
     returns-2
     returns-3
     returns-4
-    returns-5
-    returns-6
-    returns-7
-    returns-8)
+    returns-5)

@@ -1,0 +1,11 @@
+-- By the fields that tell the key. Assumes nothing.
+use mathlib.Core.Path.{sym}
+use Rattle.tables.specs.Names.{by-party}
+use Rattle.tables.proofs.test.of_party.Statement.{statement}
+use Rattle.tables.proofs.test.of_party.Tie as tie
+
+returns : tie.Need-returns
+returns c = sym (by-party _ (c .before .before .pre) _ _)
+
+pub of-party-spec : {M : Type 1} → statement M
+of-party-spec = tie.close (tie.spec returns)

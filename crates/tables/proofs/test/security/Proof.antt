@@ -1,0 +1,11 @@
+-- By the fields that tell the key. Assumes nothing.
+use mathlib.Core.Path.{sym}
+use Rattle.tables.specs.Names.{by-symbol}
+use Rattle.tables.proofs.test.security.Statement.{statement}
+use Rattle.tables.proofs.test.security.Tie as tie
+
+returns : tie.Need-returns
+returns c = sym (by-symbol _ _)
+
+pub security-spec : {M : Type 1} → statement M
+security-spec = tie.close (tie.spec returns)

@@ -1,0 +1,11 @@
+-- By the fields that tell the key. Assumes nothing.
+use mathlib.Core.Path.{sym}
+use Rattle.tables.specs.Names.{by-holder}
+use Rattle.tables.proofs.test.summary.Statement.{statement}
+use Rattle.tables.proofs.test.summary.Tie as tie
+
+returns : tie.Need-returns
+returns c = sym (by-holder _ _ _)
+
+pub summary-spec : {M : Type 1} → statement M
+summary-spec = tie.close (tie.spec returns)
