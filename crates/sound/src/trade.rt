@@ -1,10 +1,10 @@
-// What is beside a trade: its request (S6), its histories (S7), its settlement and cash (S9), and the trades of a lot
+// What is beside a trade: its request (S6), its settlement and cash (S9), and the trades of a lot
 // history (S10).
 ghost use mathlib.Core.Path.{_≡_};
 ghost use mathlib.Core.Bool.{true};
 ghost use Rattle.laws.specs.Search.{bit};
 ghost use Rattle.model.specs.Rows.{rows};
-ghost use Rattle.model.specs.Sound.{cashRight, historyRight, requestRight, s2, settled, settlementRight};
+ghost use Rattle.model.specs.Sound.{cashRight, requestRight, s2, settled, settlementRight};
 ghost use Rattle.model.specs.Sound.{tradesDone};
 ghost use Rattle.tables.specs.Bucket.{keyBucket};
 ghost use Rattle.tables.specs.Table.{Indexed};
@@ -18,8 +18,6 @@ use tables::table::Slots;
 use tables::table::id_row;
 use tables::table::id_there;
 use tables::table::party_row;
-use tables::table::there;
-use tables::test::Test;
 
 fn agrees(broker: u32, t: Row, r: Row) -> bool
     ensures { λ b. ⌜ b ≡ agreesWith broker t r ⌝ }
@@ -42,14 +40,6 @@ pub fn requested(book: &[u8], keys: &[u16; Slots::ALL], t: Row) -> bool
     let r = id_row(book, keys, Kind::REQUEST, t.id);
     let a = party_row(book, keys, Kind::ACCOUNT, t.party);
     (TradeType::TLB <= t.form) & (r.kind == Kind::REQUEST) & agrees(a.n1, t, r)
-}
-
-pub fn historied(book: &[u8], keys: &[u16; Slots::ALL], t: Row) -> bool
-    requires { ⌜ Indexed keyBucket (now book) (now keys) 0 ⌝ }
-    ensures { λ b. ⌜ b ≡ historyRight (rows (now (book .entry))) t ⌝ }
-{
-    there(book, keys, Test::History(t.id, t.status))
-        & !there(book, keys, Test::Higher(t.id, t.status))
 }
 
 pub fn settled(book: &[u8], keys: &[u16; Slots::ALL], t: Row) -> bool

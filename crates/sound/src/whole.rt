@@ -18,7 +18,6 @@ use crate::holding::summed;
 use crate::names::names_known;
 use crate::trade::done;
 use crate::trade::due;
-use crate::trade::historied;
 use crate::trade::paid;
 use crate::trade::requested;
 use crate::trade::settled;
@@ -29,6 +28,7 @@ use record::codes::Kind;
 use record::row::Grid;
 use record::row::Row;
 use shelf::place::row_at;
+use tables::sums::historied;
 use tables::table::Slots;
 use tables::table::build;
 use tables::table::narrow;
@@ -53,7 +53,7 @@ fn trade_right(book: &[u8], keys: &[u16; Slots::ALL], t: Row) -> bool
     requires { ⌜ (s2 (rows (now book)) ≡ true) × (t .kind ≡ kindTrade) ⌝ }
     ensures { λ b. ⌜ b ≡ kindRight (rows (now (book .entry))) t ⌝ }
 {
-    requested(book, keys, t) & historied(book, keys, t) & settled(book, keys, t)
+    requested(book, keys, t) & historied(book, keys, t.id, t.status) & settled(book, keys, t)
 }
 
 // S4 to S10 of a row.

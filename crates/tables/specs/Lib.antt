@@ -1,5 +1,5 @@
 pub mod Bucket
 pub mod Names
-pub mod Tests
+pub mod Keyed
 pub mod Table
 pub mod Sums

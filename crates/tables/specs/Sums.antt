@@ -5,7 +5,7 @@ use mathlib.Core.Bool.{Bool, true, false, cond, _&&_}
 use mathlib.Core.List.{List, [], _∷_}
 use Prim.Native.Nat.{ℕ, _+_, _-_, _/_, _≤_, _<_}
 use native.Mathlib.Omega.{arith}
-use lib.Dec.{eqb, leb}
+use lib.Dec.{eqb, leb, ltb}
 use lib.IntN.{ℤ, pos, negsuc, natAbs, _+ℤ_}
 use lib.ListN.{length}
 use lib.Signed.{leZ, ltZ}
@@ -15,22 +15,22 @@ use mir.Val.{toZ}
 use borrow.Author.Tests.{eqb-true, leb-true, leb-false, le-leb, le-ltb}
 use Rattle.laws.specs.Search.{bit, sumZ, total}
 use Rattle.laws.specs.Tests.{and-left, and-right}
-use Rattle.record.specs.Codes.{kindBand, kindCustomerRate, kindLot}
+use Rattle.record.specs.Codes.{kindBand, kindCustomerRate, kindLot, kindTradeHistory}
 use Rattle.record.specs.Key.{keyOf}
 use Rattle.record.specs.Signed.{up, dn, parts-add, leZ-is, toZ-high}
 use Rattle.record.specs.declared.row.Row.{Row}
 use Rattle.rules.specs.Meaning.{means-lot}
 use Rattle.rules.specs.Ranges.{sharesMost}
 use Rattle.rules.specs.Rules.{as-kind, fits}
-use Rattle.model.specs.Names.{aTaxRate}
-use Rattle.model.specs.Rows.{found, is, nothing, rows}
+use Rattle.model.specs.Names.{aHistory, aTaxRate}
+use Rattle.model.specs.Rows.{found, hasKey, is, nothing, rows}
 use Rattle.model.specs.Sound.{lotOf, overlaps, rateOf, s1, sharesOf}
 use Rattle.shelf.specs.Rows.{length-rows, rowAt}
 use Rattle.tables.specs.Bucket.{bucketOf, keyBucket, lotBucket}
-use Rattle.tables.specs.Names.{ofParty}
+use Rattle.tables.specs.Names.{by-status, ofId, ofParty}
 use Rattle.laws.specs.Place.{every-at}
 use Rattle.tables.specs.Table.{Counted}
-use Rattle.tables.specs.Tests.{Keyed, lot-bucket}
+use Rattle.tables.specs.Keyed.{Keyed, history-bucket, lot-bucket}
 
 -- what f gives of the rows of p, and nothing of any other, is counted by their number
 only-keyed : (g : Row → ℕ) (p : Row → Bool) (f : Row → ℕ) (m k : ℕ) → Keyed g p k
@@ -133,10 +133,11 @@ side-most false x m h = most-up (toZ w64 x) m h
 lot-most : (r : Row) → r .kind ≡ kindLot → fits r ≡ true → natAbs (toZ w64 (r .m1)) ≤ sharesMost
 lot-most r k e = means-lot r .shows (as-kind kindLot r k ∙ e) .0 .1
 
-pub share-yes : (owed : Bool) (account symbol : ℕ) (r : Row) {t : Bool} {x : ℕ} → fits r ≡ true
+-- a lot's part in a holding of its account and symbol, and in any other
+pub part-yes : (owed : Bool) (account symbol : ℕ) (r : Row) {t : Bool} {x : ℕ} → fits r ≡ true
     → t ≡ lotOf account symbol r → t ≡ true → x ≡ side owed (r .m1)
     → (x ≡ sharesPart owed account symbol r) × (x ≤ sharesMost)
-share-yes owed account symbol r f h e q =
+part-yes owed account symbol r f h e q =
     let yes = sym h ∙ e in
     let k = and-left (is kindLot r) (eqb (r .party) account)
     (and-left (is kindLot r && eqb (r .party) account) (eqb (r .symbol) symbol) yes)
@@ -144,9 +145,38 @@ share-yes owed account symbol r f h e q =
     let m = side-most owed (r .m1) sharesMost (lot-most r (eqb-true (r .kind) kindLot k) f) in
     (rw yes q, rw q m)
 
-pub share-no : (owed : Bool) (account symbol : ℕ) (r : Row) {t : Bool} → t ≡ lotOf account symbol r → t ≡ false
+pub part-no : (owed : Bool) (account symbol : ℕ) (r : Row) {t : Bool} → t ≡ lotOf account symbol r → t ≡ false
     → 0 ≡ sharesPart owed account symbol r
-share-no owed account symbol r h e = rw (sym h ∙ e)
+part-no owed account symbol r h e = rw (sym h ∙ e)
+
+pub lots-counted : (account symbol : ℕ)
+    → Counted lotBucket (λ r. bit (lotOf account symbol r)) 1 (bucketOf kindLot 0 0 account 0 symbol)
+lots-counted account symbol =
+    only-keyed lotBucket (lotOf account symbol) (λ r. bit (lotOf account symbol r)) 1 (bucketOf kindLot 0 0 account 0 symbol)
+    (record { all = lot-bucket account symbol }) (λ r q. rw q)
+
+-- ---- histories
+abbrev pub higherThan : ℕ → ℕ → Row → Bool
+higherThan id status r = ofId kindTradeHistory id r && ltb status (r .status)
+
+pub history-counted : (id status : ℕ)
+    → Counted keyBucket (λ r. bit (hasKey (aHistory id status) r)) 1 (bucketOf kindTradeHistory 0 0 0 id 0)
+history-counted id status =
+    only-keyed keyBucket (hasKey (aHistory id status)) (λ r. bit (hasKey (aHistory id status) r)) 1
+    (bucketOf kindTradeHistory 0 0 0 id 0)
+    (record {
+      all = λ r e. history-bucket id r (and-left (ofId kindTradeHistory id r) (eqb (r .status) status)
+          (sym (by-status id status r) ∙ e));
+    })
+    (λ r q. rw q)
+
+pub higher-counted : (id status : ℕ)
+    → Counted keyBucket (λ r. bit (higherThan id status r)) 1 (bucketOf kindTradeHistory 0 0 0 id 0)
+higher-counted id status =
+    only-keyed keyBucket (higherThan id status) (λ r. bit (higherThan id status r)) 1
+    (bucketOf kindTradeHistory 0 0 0 id 0)
+    (record { all = λ r e. history-bucket id r (and-left (ofId kindTradeHistory id r) (ltb status (r .status)) e) })
+    (λ r q. rw q)
 
 -- every row of a book that keeps S1 fits
 pub fits-there : (b : List ℕ) (c : ℕ) {r : Row} → s1 (rows b) ≡ true → c < length b / 64 → r ≡ rowAt b c

@@ -22,7 +22,7 @@ use Rattle.shelf.specs.Loop.{Sought, seek-found, seek-more, seek-none}
 use Rattle.shelf.specs.Rows.{length-rows, rowAt}
 use Rattle.tables.specs.Bucket.{bucketOfKey, keyBucket}
 use Rattle.laws.specs.Place.{some-place, the-place}
-use Rattle.tables.specs.Tests.{Keyed, id-keyed, party-keyed, symbol-keyed, test-keyed}
+use Rattle.tables.specs.Keyed.{Keyed, holder-keyed, id-keyed, party-keyed, symbol-keyed}
 
 -- the heads of the buckets, and after them a link for each place
 abbrev pub headCount : ℕ
@@ -153,7 +153,7 @@ module _ {g : Row → ℕ} {p : Row → Bool} {k : ℕ} {b : List ℕ} {w c : �
       probe-at g p k b w (c + 1) (s .keyed) (omega arith) (l .same) u (q ∙ link t c h ∙ rw (s .here h))
 
 -- what the place of the first row that passes tells
-pub there-is : (p : Row → Bool) (b : List ℕ) {x : ℕ} → x ≡ place p (rows b)
+there-is : (p : Row → Bool) (b : List ℕ) {x : ℕ} → x ≡ place p (rows b)
     → ltb x (length b / 64) ≡ leb 1 (count p (rows b))
 there-is p b e = rw (e, ← length-rows b) (sym (some-place p (rows b)))
 
@@ -250,7 +250,7 @@ pub ruleset tables = (
   probe-found,
   probe-none,
   probe-more,
-  test-keyed,
+  holder-keyed,
   id-keyed,
   party-keyed,
   symbol-keyed,

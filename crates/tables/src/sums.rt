@@ -1,13 +1,15 @@
 // Counts and sums over the rows of one bucket.
 ghost use mathlib.Core.Path.{_≡_};
-ghost use mathlib.Core.Bool.{true};
+ghost use mathlib.Core.Bool.{false, true, _&&_};
 ghost use Prim.Native.Nat.{_≤_};
+ghost use lib.Dec.{eqb};
 ghost use Rattle.laws.specs.Search.{bit, count, total};
 ghost use Rattle.rules.specs.Rules.{fits};
-ghost use Rattle.model.specs.Rows.{rows};
-ghost use Rattle.model.specs.Sound.{overlaps, rateOf, ratesOf, s1};
+ghost use Rattle.model.specs.Names.{aHistory};
+ghost use Rattle.model.specs.Rows.{hasKey, rows, there};
+ghost use Rattle.model.specs.Sound.{lotOf, overlaps, rateOf, ratesOf, s1};
 ghost use Rattle.tables.specs.Bucket.{keyBucket, lotBucket};
-ghost use Rattle.tables.specs.Sums.{sharesPart, side};
+ghost use Rattle.tables.specs.Sums.{higherThan, sharesPart, side};
 ghost use Rattle.tables.specs.Table.{Indexed};
 use crate::bucket::bucket;
 use crate::table::Slots;
@@ -102,31 +104,98 @@ pub fn side(owed: bool, x: u64) -> u64
     0
 }
 
-fn share(owed: bool, account: u32, symbol: u64, row: Row) -> u64
-    requires { ⌜ fits row ≡ true ⌝ }
-    ensures { λ r. ⌜ (r ≡ sharesPart owed account symbol row) × (r ≤ 999999) ⌝ }
-{
-    if held(account, symbol, row) {
-        return side(owed, row.m1);
-    }
-    0
+// A holding: how many lots, and the shares held and owed.
+pub struct Held {
+    pub lots: usize,
+    pub long: u64,
+    pub owed: u64,
 }
 
-// The shares of an account in a symbol, those owed or those held.
-pub fn shares(book: &[u8], lots: &[u16; Slots::ALL], owed: bool, account: u32, symbol: u64) -> u64
+// What a row adds to a holding.
+fn part(account: u32, symbol: u64, row: Row) -> Held
+    requires { ⌜ fits row ≡ true ⌝ }
+    ensures { λ r. ⌜ (r .lots ≡ bit (lotOf account symbol row)) × (r .lots ≤ 1) ⌝ }
+    ensures { λ r. ⌜ (r .long ≡ sharesPart false account symbol row) × (r .long ≤ 999999) ⌝ }
+    ensures { λ r. ⌜ (r .owed ≡ sharesPart true account symbol row) × (r .owed ≤ 999999) ⌝ }
+{
+    if held(account, symbol, row) {
+        return Held {
+            lots: 1,
+            long: side(false, row.m1),
+            owed: side(true, row.m1),
+        };
+    }
+    Held {
+        lots: 0,
+        long: 0,
+        owed: 0,
+    }
+}
+
+pub fn holding(book: &[u8], lots: &[u16; Slots::ALL], account: u32, symbol: u64) -> Held
     requires { ⌜ Indexed lotBucket (now book) (now lots) 0 ⌝ }
     requires { ⌜ s1 (rows (now book)) ≡ true ⌝ }
-    ensures { λ r. ⌜ r ≡ total (sharesPart owed account symbol) (rows (now (book .entry))) ⌝ }
-    ensures { λ r. ⌜ r ≤ 4095995904 ⌝ }
+    ensures { λ r. ⌜ r .lots ≡ count (lotOf account symbol) (rows (now (book .entry))) ⌝ }
+    ensures { λ r. ⌜ (r .long ≡ total (sharesPart false account symbol) (rows (now (book .entry)))) × (r .long ≤ 4095995904) ⌝ }
+    ensures { λ r. ⌜ (r .owed ≡ total (sharesPart true account symbol) (rows (now (book .entry)))) × (r .owed ≤ 4095995904) ⌝ }
 {
     let n = book.len() / Grid::SIZE;
     let h = bucket(Kind::LOT, 0, 0, account, 0, symbol);
-    let mut sum = 0;
+    let mut many = 0;
+    let mut long = 0;
+    let mut owed = 0;
     let mut c = wide(lots[h]);
     while c < n {
-        sum += share(owed, account, symbol, row_at(book, c));
+        let more = part(account, symbol, row_at(book, c));
+        many += more.lots;
+        long += more.long;
+        owed += more.owed;
         let s = Slots::HEADS + c;
         c = wide(lots[s]);
     }
-    sum
+    Held {
+        lots: many,
+        long,
+        owed,
+    }
+}
+
+fn history_bit(id: u64, status: u8, row: Row) -> usize
+    ensures { λ r. ⌜ (r ≡ bit (hasKey (aHistory id status) row)) × (r ≤ 1) ⌝ }
+{
+    if (row.kind == Kind::TRADE_HISTORY) & (row.id == id) & (row.status == status) {
+        1
+    } else {
+        0
+    }
+}
+
+fn higher_bit(id: u64, status: u8, row: Row) -> usize
+    ensures { λ r. ⌜ (r ≡ bit (higherThan id status row)) × (r ≤ 1) ⌝ }
+{
+    if (row.kind == Kind::TRADE_HISTORY) & (row.id == id) & (status < row.status) {
+        1
+    } else {
+        0
+    }
+}
+
+// A trade has the history of its status, and none of a higher one.
+pub fn historied(book: &[u8], keys: &[u16; Slots::ALL], id: u64, status: u8) -> bool
+    requires { ⌜ Indexed keyBucket (now book) (now keys) 0 ⌝ }
+    ensures { λ r. ⌜ r ≡ (there (aHistory id status) (rows (now (book .entry))) && eqb (count (higherThan id status) (rows (now (book .entry)))) 0) ⌝ }
+{
+    let n = book.len() / Grid::SIZE;
+    let h = bucket(Kind::TRADE_HISTORY, 0, 0, 0, id, 0);
+    let mut present = 0;
+    let mut above = 0;
+    let mut c = wide(keys[h]);
+    while c < n {
+        let row = row_at(book, c);
+        present += history_bit(id, status, row);
+        above += higher_bit(id, status, row);
+        let s = Slots::HEADS + c;
+        c = wide(keys[s]);
+    }
+    (1 <= present) & (above == 0)
 }

@@ -1,26 +1,23 @@
 // The tables of a book, and the first row that passes a test.
 ghost use mathlib.Core.Path.{_≡_};
 ghost use mathlib.Core.Bool.{true};
-ghost use lib.Dec.{leb};
 ghost use Prim.Native.Nat.{_+_, _/_, _<_, _≤_};
 ghost use lib.ListN.{drop, length};
-ghost use Rattle.laws.specs.Search.{count, place, seek};
+ghost use Rattle.laws.specs.Search.{place, seek};
 ghost use Rattle.record.specs.Key.{among, keyOf};
-ghost use Rattle.model.specs.Names.{aSecurity, byId, byParty};
+ghost use Rattle.model.specs.Names.{aSecurity, aSummary, byId, byParty};
 ghost use Rattle.model.specs.Rows.{found, hasKey, rows, there};
 ghost use Rattle.shelf.specs.Rows.{rowAt};
 ghost use Rattle.tables.specs.Bucket.{keyBucket, lotBucket};
 ghost use Rattle.tables.specs.Names.{idKinds, partyKinds};
 ghost use Rattle.tables.specs.Table.{Blank, Indexed};
-ghost use Rattle.tables.specs.Tests.{bucketFor, by, passes};
 use crate::bucket::bucket;
 use crate::bucket::key_bucket;
 use crate::bucket::lot_bucket;
-use crate::test::Test;
 use crate::test::of_id;
 use crate::test::of_party;
-use crate::test::passes;
 use crate::test::security;
+use crate::test::summary;
 use record::codes::Kind;
 use record::key::Key;
 use record::row::Grid;
@@ -73,19 +70,7 @@ pub fn build(book: &[u8], keys: &mut [u16; Slots::ALL], lots: &mut [u16; Slots::
     }
 }
 
-fn bucket_for(t: Test) -> usize
-    ensures { λ r. ⌜ (r ≡ bucketFor t) × (r < 8193) ⌝ }
-{
-    match t {
-        Test::Summary(account, symbol) => bucket(Kind::SUMMARY, 0, 0, account, 0, symbol),
-        Test::History(id, _) => bucket(Kind::TRADE_HISTORY, 0, 0, 0, id, 0),
-        Test::Higher(id, _) => bucket(Kind::TRADE_HISTORY, 0, 0, 0, id, 0),
-        Test::Held(account, symbol) => bucket(Kind::LOT, 0, 0, account, 0, symbol),
-        Test::Opposed(account, symbol, _) => bucket(Kind::LOT, 0, 0, account, 0, symbol),
-    }
-}
-
-// The searches that are made most often, each by its own loop.
+// The place of the row of a key, the number of records where there is none.
 fn by_id(book: &[u8], keys: &[u16; Slots::ALL], kind: u8, id: u64) -> usize
     requires { ⌜ Indexed keyBucket (now book) (now keys) 0 ⌝ }
     requires { ⌜ among kind idKinds ≡ true ⌝ }
@@ -139,30 +124,21 @@ fn by_symbol(book: &[u8], keys: &[u16; Slots::ALL], symbol: u64) -> usize
     c
 }
 
-// The place of the first row that passes, the number of records where none does.
-fn first(book: &[u8], table: &[u16; Slots::ALL], test: Test) -> usize
-    requires { ⌜ Indexed (by test) (now book) (now table) 0 ⌝ }
-    ensures { λ r. ⌜ r ≡ place (passes test) (rows (now (book .entry))) ⌝ }
+fn by_holder(book: &[u8], keys: &[u16; Slots::ALL], account: u32, symbol: u64) -> usize
+    requires { ⌜ Indexed keyBucket (now book) (now keys) 0 ⌝ }
+    ensures { λ r. ⌜ r ≡ place (hasKey (aSummary account symbol)) (rows (now (book .entry))) ⌝ }
 {
     let n = book.len() / Grid::SIZE;
-    let h = bucket_for(test);
-    let mut c = wide(table[h]);
+    let h = bucket(Kind::SUMMARY, 0, 0, account, 0, symbol);
+    let mut c = wide(keys[h]);
     while c < n {
-        if passes(test, row_at(book, c)) {
+        if summary(account, symbol, row_at(book, c)) {
             return c;
         }
         let s = Slots::HEADS + c;
-        c = wide(table[s]);
+        c = wide(keys[s]);
     }
     c
-}
-
-// Some row passes.
-pub fn there(book: &[u8], table: &[u16; Slots::ALL], test: Test) -> bool
-    requires { ⌜ Indexed (by test) (now book) (now table) 0 ⌝ }
-    ensures { λ r. ⌜ r ≡ leb 1 (count (passes test) (rows (now (book .entry)))) ⌝ }
-{
-    first(book, table, test) < book.len() / Grid::SIZE
 }
 
 pub fn id_there(book: &[u8], keys: &[u16; Slots::ALL], kind: u8, id: u64) -> bool
@@ -203,6 +179,13 @@ pub fn security_there(book: &[u8], keys: &[u16; Slots::ALL], symbol: u64) -> boo
     ensures { λ r. ⌜ r ≡ there (aSecurity symbol) (rows (now (book .entry))) ⌝ }
 {
     by_symbol(book, keys, symbol) < book.len() / Grid::SIZE
+}
+
+pub fn summary_there(book: &[u8], keys: &[u16; Slots::ALL], account: u32, symbol: u64) -> bool
+    requires { ⌜ Indexed keyBucket (now book) (now keys) 0 ⌝ }
+    ensures { λ r. ⌜ r ≡ there (aSummary account symbol) (rows (now (book .entry))) ⌝ }
+{
+    by_holder(book, keys, account, symbol) < book.len() / Grid::SIZE
 }
 
 // The second row has the key of the first.

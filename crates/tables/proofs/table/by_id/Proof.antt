@@ -1,4 +1,5 @@
--- As `first`, for the one key. Assumes nothing.
+-- The invariant: the plain search has come to place c, and the row there is in the bucket of the key. A link skips only
+-- rows of other buckets, none of which has the key. The measure is the number of places left. Assumes nothing.
 use Prim.Native.Nat.{_-_}
 use Rattle.laws.specs.Search.{place}
 use Rattle.model.specs.Names.{byId}

@@ -1,4 +1,4 @@
--- As `first`, for the one key. Assumes nothing.
+-- As `by_id`, for another key. Assumes nothing.
 use Prim.Native.Nat.{_-_}
 use Rattle.laws.specs.Search.{place}
 use Rattle.model.specs.Names.{byParty}

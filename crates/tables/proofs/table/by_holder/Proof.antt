@@ -1,23 +1,25 @@
--- The invariant: the plain search has come to place c, and the row there is in the bucket. A link skips only rows of
--- other buckets, none of which passes. The measure is the number of places left. Assumes nothing.
-use borrow.Author.Needs.{needs}
+-- As `by_id`, for the key of a summary. Assumes nothing.
 use Prim.Native.Nat.{_-_}
 use Rattle.laws.specs.Search.{place}
-use Rattle.model.specs.Rows.{rows}
-use Rattle.tables.specs.Tests.{bucketFor, by, passes}
-use Rattle.tables.proofs.table.first.Statement.{statement}
+use Rattle.record.specs.Codes.{kindSummary}
+use Rattle.model.specs.Names.{aSummary}
+use Rattle.model.specs.Rows.{hasKey, rows}
+use Rattle.tables.specs.Bucket.{bucketOf, keyBucket}
+use borrow.Author.Needs.{needs}
 use Rattle.tables.specs.Table.{Probed, tables}
-use Rattle.tables.proofs.table.first.Tie as tie
+use Rattle.tables.proofs.table.by_holder.Statement.{statement}
+use Rattle.tables.proofs.table.by_holder.Tie as tie
 
 abbrev Inv-loop : tie.InvT-loop
-Inv-loop book table test n h c₀ c =
-    Probed (by test) (passes test) (bucketFor test) book (place (passes test) (rows book)) c
+Inv-loop book keys account symbol n h c₀ c =
+    Probed keyBucket (hasKey (aSummary account symbol)) (bucketOf kindSummary 0 0 account 0 symbol) book
+    (place (hasKey (aSummary account symbol)) (rows book)) c
 
 abbrev μ-loop : tie.MeasureT-loop
-μ-loop book table test n h c₀ c = n - c
+μ-loop book keys account symbol n h c₀ c = n - c
 
-pub first-spec : {M : Type 1} → statement M
-first-spec =
+pub by-holder-spec : {M : Type 1} → statement M
+by-holder-spec =
     tie.close
     (tie.spec
     Inv-loop
