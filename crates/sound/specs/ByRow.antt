@@ -7,15 +7,16 @@ use Rattle.laws.specs.Search.{every}
 use Rattle.record.specs.Codes.{kindBand, kindCash, kindCustomer, kindLot, kindLotHistory, kindSettlement}
 use Rattle.record.specs.Codes.{kindSummary, kindTrade}
 use Rattle.record.specs.declared.row.Row.{Row}
-use Rattle.model.specs.Sound.{bandApart, cashRight, each, historyRight, lotRight, namesKnown, ratesFit, requestRight}
-use Rattle.model.specs.Sound.{s1, s2, s3, s4, s5, s6, s7, s8, s9, s10, settled, settlementRight, sound}
-use Rattle.model.specs.Sound.{summaryRight, tradesDone}
+use Rattle.model.specs.Sound.{bandApart, cashRight, each, historyRight, namesKnown, ratesFit, requestRight}
+use Rattle.model.specs.Sound.{s1, s2, s3, s4, s5, s6, s7, s9, s10, settled, settlementRight, sound}
+use Rattle.model.specs.Sound.{tradesDone}
+use Rattle.sound.specs.OneSide.{holdingKept, holdings-kept, lotKept, summaryKept}
 
--- S4 to S10 of a row, each for the rows of its kind
+-- S4 to S10 of a row, each for the rows of its kind; S8 as `OneSide` has it
 unfoldable pub kindRight : List Row → Row → Bool
 kindRight rs r =
     each kindBand (bandApart rs) r && each kindCustomer (ratesFit rs) r && each kindTrade (requestRight rs) r
-    && each kindTrade (historyRight rs) r && (each kindLot (lotRight rs) r && each kindSummary (summaryRight rs) r)
+    && each kindTrade (historyRight rs) r && holdingKept rs r
     && (each kindTrade (settled rs) r && each kindSettlement (settlementRight rs) r && each kindCash (cashRight rs) r)
     && each kindLotHistory (tradesDone rs) r
 
@@ -42,11 +43,11 @@ module _ (rs : List Row) (r : Row) where
   unfolding kindRight
   of-trade e h k l = rw e (simp and-end (rw (h, k, l)))
 
-  pub of-lot : {x : Bool} → r .kind ≡ kindLot → x ≡ lotRight rs r → x ≡ kindRight rs r
+  pub of-lot : {x : Bool} → r .kind ≡ kindLot → x ≡ lotKept rs r → x ≡ kindRight rs r
   unfolding kindRight
   of-lot e h = rw e (simp and-end h)
 
-  pub of-summary : {x : Bool} → r .kind ≡ kindSummary → x ≡ summaryRight rs r → x ≡ kindRight rs r
+  pub of-summary : {x : Bool} → r .kind ≡ kindSummary → x ≡ summaryKept rs r → x ≡ kindRight rs r
   unfolding kindRight
   of-summary e h = rw e (simp and-end h)
 
@@ -95,14 +96,14 @@ split p q l e f = every-and p q l ∙ rw (e, f)
 
 -- what the rows keep, rule by rule
 rows-right : (rs : List Row)
-    → every (rowRight rs) rs ≡ (s3 rs && (s4 rs && s5 rs && s6 rs && s7 rs && s8 rs && s9 rs && s10 rs))
-unfolding rowRight kindRight s3 s4 s5 s6 s7 s8 s9 s10
+    → every (rowRight rs) rs ≡ (s3 rs && (s4 rs && s5 rs && s6 rs && s7 rs && every (holdingKept rs) rs && s9 rs && s10 rs))
+unfolding rowRight kindRight s3 s4 s5 s6 s7 s9 s10
 rows-right rs =
     let b = each kindBand (bandApart rs) in
     let c = each kindCustomer (ratesFit rs) in
     let q = each kindTrade (requestRight rs) in
     let h = each kindTrade (historyRight rs) in
-    let l : Row → Bool = λ r. each kindLot (lotRight rs) r && each kindSummary (summaryRight rs) r in
+    let l = holdingKept rs in
     let p : Row → Bool =
     λ r. each kindTrade (settled rs) r && each kindSettlement (settlementRight rs) r && each kindCash (cashRight rs) r
     in
@@ -123,7 +124,7 @@ sound-by-row rs = go (s1 rs) (s2 rs) (s3 rs) refl refl refl
     go false b c e f g = rw e
     go true false c e f g = rw (e, f)
     go true true false e f g = rw (e, f, rows-right rs, g)
-    go true true true e f g = rw (e, f, rows-right rs, g)
+    go true true true e f g = rw (e, f, rows-right rs, holdings-kept rs e, g)
 
 -- ---- the same as the code comes to it
 kept : (x : Bool) → not x ≡ false → x ≡ true

@@ -124,7 +124,7 @@ all-distinct (r ∷ l) h =
     and-both (nowhere r l) (distinct l) (lone-nowhere r l (h r (List·Memᴰ·head refl)))
     (all-distinct l (λ x m. alone-less r x l m (h x (List·Memᴰ·tail m))))
 
-one-truth : (a b : Bool) → (a ≡ true → b ≡ true) → (b ≡ true → a ≡ true) → a ≡ b
+pub one-truth : (a b : Bool) → (a ≡ true → b ≡ true) → (b ≡ true → a ≡ true) → a ≡ b
 one-truth true b f g = sym (f refl)
 one-truth false true f g = g refl
 one-truth false false f g = refl

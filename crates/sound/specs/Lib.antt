@@ -1,5 +1,6 @@
 pub mod Distinct
 pub mod Once
+pub mod OneSide
 pub mod ByRow
 pub mod Rules
 pub mod Status

@@ -28,6 +28,7 @@ use Rattle.model.specs.Sound.{agrees, equalZ, higher, historyRight, lotOf, name
 use Rattle.model.specs.Sound.{lotRight, otherSign, settlementRight, sharesOf, short, summaryRight}
 use Rattle.tables.specs.Sums.{sharesPart, side}
 use Rattle.sound.specs.Distinct.{none-left}
+use Rattle.sound.specs.OneSide.{summaryKept}
 use Rattle.sound.specs.Once.{found-kind, once, once-and}
 
 and-end : (a : Bool) → (a && true) ≡ a
@@ -108,21 +109,6 @@ module _ (rs : List Row) (unique : s2 rs ≡ true) (t : Row) where
   request-none n h =
       rw (ne-eqb (t .status) pending n) (ap not h ∙ sym (none-left (count (hasKey (aRequest (t .id))) rs)))
 
--- ---- S8: one sign
--- what is counted and what is summed are none together
-none-alike : {A : Type 0} (p : A → Bool) (f : A → ℕ) (l : List A)
-    → ((x : A) → List·Memᴰ x l → (p x ≡ true → 1 ≤ f x) × (p x ≡ false → f x ≡ 0)) → eqb (count p l) 0 ≡ eqb (total f l) 0
-unfolding count total
-none-alike p f [] h = refl
-none-alike p f (x ∷ l) h = go (p x) refl (h x (List·Memᴰ·head refl)) (none-alike p f l (λ y m. h y (List·Memᴰ·tail m)))
-  where
-    go : (t : Bool) → p x ≡ t → (p x ≡ true → 1 ≤ f x) × (p x ≡ false → f x ≡ 0)
-        → eqb (count p l) 0 ≡ eqb (total f l) 0 → eqb (count p (x ∷ l)) 0 ≡ eqb (total f (x ∷ l)) 0
-    go true e k ih =
-        let y = k .0 e in
-        rw e (ne-eqb (1 + count p l) 0 (λ q. omega arith) ∙ sym (ne-eqb (f x + total f l) 0 (λ q. omega arith)))
-    go false e k ih = rw (e, k .1 e, zero-add (count p l), zero-add (total f l)) ih
-
 -- ---- S8: the shares held and those owed, apart
 sides : (account symbol : ℕ) (l : List Row)
     → up (sumZ (sharesOf account symbol) l) + total (sharesPart true account symbol) l
@@ -172,88 +158,10 @@ same-equal a b c d f g = go (eqb a b) refl
     go true e = rw e (sym (eq-eqb c d (f (eqb-true a b e))))
     go false e = rw e (sym (ne-eqb c d (λ q. eqb-false a b e (g q))))
 
--- a number that is not zero is on one side of it
-sign : (z : ℤ) → (z ≡ pos 0 → ⊥) → (s : Bool)
-    → (not (s ⇔ ltZ z (pos 0)) ≡ true → 1 ≤ cond s (up z) (dn z))
-    × (not (s ⇔ ltZ z (pos 0)) ≡ false → cond s (up z) (dn z) ≡ 0)
-sign (pos zero) n s = absurd (n refl)
-sign (pos (suc k)) n true =
-    let z = le-ltb (suc k) 0 (omega arith) in
-    (λ e. omega arith, λ e. absurd (false≢true (sym (rw z at e))))
-sign (pos (suc k)) n false = let z = le-ltb (suc k) 0 (omega arith) in (λ e. absurd (false≢true (rw z at e)), λ e. refl)
-sign (negsuc k) n true = (λ e. absurd (false≢true e), λ e. refl)
-sign (negsuc k) n false = (λ e. omega arith, λ e. absurd (false≢true (sym e)))
-
-not-zero : (x : ℕ) → (x ≡ 0 → ⊥) → toZ w64 x ≡ pos 0 → ⊥
-not-zero x n e = go (leb 9223372036854775808 x) refl
-  where
-    go : (t : Bool) → leb 9223372036854775808 x ≡ t → ⊥
-    go true h =
-        let z : negsuc (2 ^ 64 - suc x) ≡ pos 0 = sym (toZ-high w64 x (leb-true 9223372036854775808 x h)) ∙ e in
-        let y : suc (2 ^ 64 - suc x) ≡ 0 = ap dn z in
-        omega arith
-    go false h =
-        let k = leb-false 9223372036854775808 x h in
-        let z : pos x ≡ pos 0 = sym (toZ-pos w64 {n = x} k) ∙ e in
-        n (ap up z)
-
--- a lot that fits has shares
-lot-shares : (l r : Row) → fits r ≡ true → lotOf (l .party) (l .symbol) r ≡ true → r .m1 ≡ 0 → ⊥
-lot-shares l r f h =
-    let k = eqb-true (r .kind) kindLot (and-left (is kindLot r) (eqb (r .party) (l .party))
-    (and-left (is kindLot r && eqb (r .party) (l .party)) (eqb (r .symbol) (l .symbol)) h))
-    in
-    means-lot r .shows (as-kind kindLot r k ∙ f) .0 .0 .1
-
--- a lot of the other sign than l is one with shares on the other side
-abbrev across : Bool → Row → Row → ℕ
-across true l = sharesPart false (l .party) (l .symbol)
-across false l = sharesPart true (l .party) (l .symbol)
-
-other-side : (l r : Row) → fits r ≡ true → (s : Bool) → short l ≡ s
-    → (otherSign l r ≡ true → 1 ≤ across s l r) × (otherSign l r ≡ false → across s l r ≡ 0)
-other-side l r f s e = go s e (lotOf (l .party) (l .symbol) r) refl
-  where
-    go : (s : Bool) → short l ≡ s → (t : Bool) → lotOf (l .party) (l .symbol) r ≡ t
-        → (otherSign l r ≡ true → 1 ≤ across s l r) × (otherSign l r ≡ false → across s l r ≡ 0)
-    go true e true h = rw (e, h) (sign (toZ w64 (r .m1)) (not-zero (r .m1) (lot-shares l r f h)) true)
-    go false e true h = rw (e, h) (sign (toZ w64 (r .m1)) (not-zero (r .m1) (lot-shares l r f h)) false)
-    go true e false h = rw (e, h) (λ q. absurd (false≢true q), λ q. refl)
-    go false e false h = rw (e, h) (λ q. absurd (false≢true q), λ q. refl)
-
--- so no lot has the other sign where nothing is on the other side
-one-sign : (rs : List Row) (l : Row) → s1 rs ≡ true
-    → eqb (count (otherSign l) rs) 0
-    ≡ cond (short l) (eqb (total (sharesPart false (l .party) (l .symbol)) rs) 0)
-    (eqb (total (sharesPart true (l .party) (l .symbol)) rs) 0)
-unfolding s1
-one-sign rs l u = go (short l) refl
-  where
-    all : (r : Row) → List·Memᴰ r rs → fits r ≡ true
-    all = means-every {P = λ r. fits r ≡ true} rs (λ r. record { shows = λ e. e; holds = λ e. e }) .shows u
-
-    go : (s : Bool) → short l ≡ s
-        → eqb (count (otherSign l) rs) 0
-        ≡ cond (short l) (eqb (total (sharesPart false (l .party) (l .symbol)) rs) 0)
-        (eqb (total (sharesPart true (l .party) (l .symbol)) rs) 0)
-    go true e =
-        none-alike (otherSign l) (sharesPart false (l .party) (l .symbol)) rs (λ r m. other-side l r (all r m) true e)
-        ∙ rw e
-    go false e =
-        none-alike (otherSign l) (sharesPart true (l .party) (l .symbol)) rs (λ r m. other-side l r (all r m) false e)
-        ∙ rw e
-
-pub lot-is : (rs : List Row) (l : Row) {t : Row} {long owed : ℕ} {x u : Bool} → s1 rs ≡ true
-    → t ≡ found (aTrade (l .id)) rs → long ≡ total (sharesPart false (l .party) (l .symbol)) rs
-    → owed ≡ total (sharesPart true (l .party) (l .symbol)) rs → x ≡ cond (short l) (eqb long 0) (eqb owed 0)
-    → u ≡ there (aSummary (l .party) (l .symbol)) rs
-    → (eqb (t .status) completed && eqb (t .party) (l .party) && eqb (t .symbol) (l .symbol) && x && u) ≡ lotRight rs l
-lot-is rs l s h el eo f g = rw (h, f, el, eo, one-sign rs l s, g)
-
 pub summary-is : (rs : List Row) (s : Row) {many long owed x y : ℕ}
     → many ≡ count (lotOf (s .party) (s .symbol)) rs → long ≡ total (sharesPart false (s .party) (s .symbol)) rs
     → owed ≡ total (sharesPart true (s .party) (s .symbol)) rs → x ≡ side true (s .m1) → y ≡ side false (s .m1)
-    → (leb 1 many && eqb (long + x) (owed + y)) ≡ summaryRight rs s
+    → (leb 1 many && eqb (long + x) (owed + y) && (eqb long 0 || eqb owed 0)) ≡ summaryKept rs s
 summary-is rs s {many} {long} {owed} {x} {y} h l o ex ey =
     let z = toZ w64 (s .m1) in
     let total-shares = sumZ (sharesOf (s .party) (s .symbol)) rs in
@@ -262,7 +170,7 @@ summary-is rs s {many} {long} {owed} {x} {y} h l o ex ey =
     same-equal (long + x) (owed + y) (up total-shares + dn z) (up z + dn total-shares) (λ u. omega arith)
     (λ u. omega arith)
     in
-    rw (← h, equal-parts total-shares z, q)
+    rw (← h, equal-parts total-shares z, q, ← l, ← o)
 
 -- ---- S9
 two-bits : (a b : Bool) → (a ⇔ b) ≡ eqb (bit a) (bit b)

@@ -68,7 +68,7 @@ fn kind_right(book: &[u8], keys: &[u16; Slots::ALL], lots: &[u16; Slots::ALL], r
         Kind::CUSTOMER => rates_fit(book, keys, r),
         Kind::BAND => apart(book, keys, r),
         Kind::TRADE => trade_right(book, keys, r),
-        Kind::LOT => held(book, keys, lots, r),
+        Kind::LOT => held(book, keys, r),
         Kind::SUMMARY => summed(book, lots, r),
         Kind::LOT_HISTORY => done(book, keys, r),
         Kind::SETTLEMENT => paid(book, keys, r),

@@ -6,9 +6,9 @@ use Rattle.sound.proofs.holding.summed.Tie as tie
 
 returns : tie.Need-returns
 returns c =
-    let held = c .before .before .before .before .before in
-    let two = c .before in
-    let one = c .before .before .before in
+    let two = c .before .before .before .before in
+    let one = two .before .before in
+    let held = one .before in
     summary-is _ (held .before .before .args .s) (held .holding .ensures .0) (held .holding .ensures .1 .0 .0)
     (held .holding .ensures .1 .1 .0) (one .side .ensures .0) (two .side2 .ensures .0)
 
