@@ -1,6 +1,6 @@
 //! `bench [ROUNDS]`: how long a check of soundness takes, by the book's size: the proved one, the second
-//! program's, and a copy of the book's bytes as the yardstick. All are measured in turn, book by book, and
-//! the medians are printed.
+//! program's, and a copy of the book's bytes as the yardstick. Each goes over all books in turn, so that no
+//! call meets the book that it has just met, and the medians are printed.
 
 use second::gen;
 use second::mutate;
@@ -16,7 +16,7 @@ extern "C" {
 
 const SIZES: [usize; 3] = [64, 512, 4_096];
 const BOOKS: usize = 20;
-const ROUNDS: usize = 15;
+const ROUNDS: usize = 51;
 /// A measurement repeats what it measures for about so long, as the clock is coarse.
 const SPAN: Duration = Duration::from_micros(200);
 
@@ -36,19 +36,21 @@ const TASKS: [fn(&[u8], &mut [u8]) -> i32; 3] = [
     |book, _| sound::status(book),
 ];
 
-/// The seconds that one run takes, as the mean of so many.
-fn measure(task: usize, repeats: u32, book: &[u8], area: &mut [u8]) -> f64 {
+/// The seconds that one book takes, as the mean of so many runs over all books.
+fn measure(task: usize, repeats: u32, books: &[Vec<u8>], area: &mut [u8]) -> f64 {
     let start = Instant::now();
     for _ in 0..repeats {
-        let status = TASKS[task](black_box(book), black_box(area));
-        assert_eq!(black_box(status), 0, "a sound book was refused");
+        for book in books {
+            let status = TASKS[task](black_box(book), black_box(area));
+            assert_eq!(black_box(status), 0, "a sound book was refused");
+        }
     }
-    start.elapsed().as_secs_f64() / f64::from(repeats)
+    start.elapsed().as_secs_f64() / f64::from(repeats) / books.len() as f64
 }
 
-fn repeats_for(task: usize, book: &[u8], area: &mut [u8]) -> u32 {
-    measure(task, 3, book, area);
-    let once = measure(task, 3, book, area);
+fn repeats_for(task: usize, books: &[Vec<u8>], area: &mut [u8]) -> u32 {
+    measure(task, 1, books, area);
+    let once = measure(task, 1, books, area) * books.len() as f64;
     (SPAN.as_secs_f64() / once).clamp(1.0, 10_000.0) as u32
 }
 
@@ -74,13 +76,11 @@ fn medians(records: usize, rounds: usize) -> [f64; 3] {
     compare(&mut rng, records);
     let books: Vec<Vec<u8>> = (0..BOOKS).map(|_| gen::book(&mut rng, records)).collect();
     let mut area = books[0].clone();
-    let repeats = [0, 1, 2].map(|task| repeats_for(task, &books[0], &mut area));
+    let repeats = [0, 1, 2].map(|task| repeats_for(task, &books, &mut area));
     let mut times = [Vec::new(), Vec::new(), Vec::new()];
     for _ in 0..rounds {
-        for book in &books {
-            for task in 0..TASKS.len() {
-                times[task].push(measure(task, repeats[task], book, &mut area));
-            }
+        for task in 0..TASKS.len() {
+            times[task].push(measure(task, repeats[task], &books, &mut area));
         }
     }
     times.map(median)
