@@ -1,6 +1,6 @@
 -- Finds and counts by the place of the first that passes. Assumes nothing.
-use mathlib.Core.Path.{_≡_, refl, sym, ap, _∙_}
-use mathlib.Core.Bool.{Bool, true, false, cond, not, _&&_}
+use mathlib.Core.Path.{_≡_, refl, sym, _∙_}
+use mathlib.Core.Bool.{Bool, true, false}
 use mathlib.Core.List.{List, [], _∷_}
 use Prim.Native.Nat.{ℕ, zero, suc, _+_, _<_}
 use native.Mathlib.Nat.{zero-add}
@@ -9,7 +9,7 @@ use native.Mathlib.Omega.{arith}
 use lib.Dec.{leb, ltb, leb·suc-suc}
 use lib.ListN.{length, getD}
 use borrow.Author.Tests.{le-leb, lt-ltb}
-use Rattle.laws.specs.Search.{bit, count, every, place, seek, the, total}
+use Rattle.laws.specs.Search.{count, every, place, seek, the, total}
 use Rattle.laws.specs.Tests.{and-left, and-right}
 
 module _ {A : Type 0} where

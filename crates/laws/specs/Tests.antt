@@ -1,6 +1,6 @@
 -- Truth values, and the propositions that they mean. A test b means P where b is true exactly when P holds: a rule is
 -- computed as a test and used as a proposition. Assumes nothing.
-use mathlib.Core.Path.{_≡_, refl}
+use mathlib.Core.Path.{_≡_, refl, sym}
 use mathlib.Core.Bool.{Bool, true, false, cond, not, _&&_, _||_, false≢true}
 use mathlib.Core.Logic.{_⊎_, inl, inr, ⊎-elim}
 use Prim.Native.Nat.{ℕ, _≤_}
@@ -17,6 +17,14 @@ and-right false b e = absurd (false≢true e)
 
 pub and-both : (a b : Bool) → a ≡ true → b ≡ true → (a && b) ≡ true
 and-both a b e f = rw (e, f)
+
+pub and-true : (a : Bool) → (a && true) ≡ a
+and-true true = refl
+and-true false = refl
+
+pub and-assoc : (a b c : Bool) → (a && (b && c)) ≡ (a && b && c)
+and-assoc true b c = refl
+and-assoc false b c = refl
 
 pub or-false : (a : Bool) → (a || false) ≡ a
 or-false true = refl
@@ -51,12 +59,31 @@ pub or-cases : (a b : Bool) → (a || b) ≡ true → (a ≡ true) ⊎ (b ≡ tr
 or-cases true b e = inl refl
 or-cases false b e = inr e
 
-or-left : (a b : Bool) → a ≡ true → (a || b) ≡ true
+pub or-left : (a b : Bool) → a ≡ true → (a || b) ≡ true
 or-left a b e = rw e
 
-or-right : (a b : Bool) → b ≡ true → (a || b) ≡ true
+pub or-right : (a b : Bool) → b ≡ true → (a || b) ≡ true
 or-right true b e = refl
 or-right false b e = e
+
+pub or-swap : (a b : Bool) → (a || b) ≡ true → (b || a) ≡ true
+or-swap true b e = or-right b true refl
+or-swap false b e = or-left b false e
+
+-- one of two holds, and it is not the first
+pub or-else : (a b : Bool) → (a || b) ≡ true → a ≡ false → b ≡ true
+or-else true b e f = absurd (false≢true (sym f))
+or-else false b e f = e
+
+pub or-either : (a b : Bool) → (a ≡ false → b ≡ true) → (a || b) ≡ true
+or-either true b h = refl
+or-either false b h = h refl
+
+-- two tests that hold together are one
+pub one-truth : (a b : Bool) → (a ≡ true → b ≡ true) → (b ≡ true → a ≡ true) → a ≡ b
+one-truth true b f g = sym (f refl)
+one-truth false true f g = g refl
+one-truth false false f g = refl
 
 pub means-or : {a b : Bool} {P Q : Type 0} → Means a P → Means b Q → Means (a || b) (P ⊎ Q)
 means-or {a} {b} p q = record {

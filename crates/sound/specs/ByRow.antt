@@ -1,9 +1,10 @@
 -- S3 to S10 row by row: the rules of one row, and that a book is sound where every row keeps them. Assumes nothing.
-use mathlib.Core.Path.{_≡_, refl, sym, ap, _∙_}
+use mathlib.Core.Path.{_≡_, refl, sym, _∙_}
 use mathlib.Core.Bool.{Bool, true, false, not, _&&_}
 use mathlib.Core.List.{List, [], _∷_}
 use borrow.Author.Tests.{ne-eqb}
 use Rattle.laws.specs.Search.{every}
+use Rattle.laws.specs.Tests.{and-true}
 use Rattle.record.specs.Codes.{kindBand, kindCash, kindCustomer, kindLot, kindLotHistory, kindSettlement}
 use Rattle.record.specs.Codes.{kindSummary, kindTrade}
 use Rattle.record.specs.declared.row.Row.{Row}
@@ -23,41 +24,36 @@ kindRight rs r =
 unfoldable pub rowRight : List Row → Row → Bool
 rowRight rs r = namesKnown rs r && kindRight rs r
 
--- a test that holds by itself falls away
-and-end : (a : Bool) → (a && true) ≡ a
-and-end true = refl
-and-end false = refl
-
 -- what is left of the rules at a row of each kind
 module _ (rs : List Row) (r : Row) where
   pub of-band : {x : Bool} → r .kind ≡ kindBand → x ≡ bandApart rs r → x ≡ kindRight rs r
   unfolding kindRight
-  of-band e h = rw e (simp and-end h)
+  of-band e h = rw e (simp and-true h)
 
   pub of-customer : {x : Bool} → r .kind ≡ kindCustomer → x ≡ ratesFit rs r → x ≡ kindRight rs r
   unfolding kindRight
-  of-customer e h = rw e (simp and-end h)
+  of-customer e h = rw e (simp and-true h)
 
   pub of-trade : {x y z : Bool} → r .kind ≡ kindTrade → x ≡ requestRight rs r → y ≡ historyRight rs r → z ≡ settled rs r
       → (x && y && z) ≡ kindRight rs r
   unfolding kindRight
-  of-trade e h k l = rw e (simp and-end (rw (h, k, l)))
+  of-trade e h k l = rw e (simp and-true (rw (h, k, l)))
 
   pub of-lot : {x : Bool} → r .kind ≡ kindLot → x ≡ lotKept rs r → x ≡ kindRight rs r
   unfolding kindRight
-  of-lot e h = rw e (simp and-end h)
+  of-lot e h = rw e (simp and-true h)
 
   pub of-summary : {x : Bool} → r .kind ≡ kindSummary → x ≡ summaryKept rs r → x ≡ kindRight rs r
   unfolding kindRight
-  of-summary e h = rw e (simp and-end h)
+  of-summary e h = rw e (simp and-true h)
 
   pub of-settlement : {x : Bool} → r .kind ≡ kindSettlement → x ≡ settlementRight rs r → x ≡ kindRight rs r
   unfolding kindRight
-  of-settlement e h = rw e (simp and-end h)
+  of-settlement e h = rw e (simp and-true h)
 
   pub of-cash : {x : Bool} → r .kind ≡ kindCash → x ≡ cashRight rs r → x ≡ kindRight rs r
   unfolding kindRight
-  of-cash e h = rw e (simp and-end h)
+  of-cash e h = rw e (simp and-true h)
 
   pub of-lot-history : {x : Bool} → r .kind ≡ kindLotHistory → x ≡ tradesDone rs r → x ≡ kindRight rs r
   unfolding kindRight
@@ -96,7 +92,8 @@ split p q l e f = every-and p q l ∙ rw (e, f)
 
 -- what the rows keep, rule by rule
 rows-right : (rs : List Row)
-    → every (rowRight rs) rs ≡ (s3 rs && (s4 rs && s5 rs && s6 rs && s7 rs && every (holdingKept rs) rs && s9 rs && s10 rs))
+    → every (rowRight rs) rs
+    ≡ (s3 rs && (s4 rs && s5 rs && s6 rs && s7 rs && every (holdingKept rs) rs && s9 rs && s10 rs))
 unfolding rowRight kindRight s3 s4 s5 s6 s7 s9 s10
 rows-right rs =
     let b = each kindBand (bandApart rs) in

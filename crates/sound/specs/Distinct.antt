@@ -7,9 +7,9 @@ use native.Mathlib.Nat.{add-suc, add-zero}
 use native.Mathlib.Omega.{arith}
 use lib.Dec.{eqb, leb, ltb}
 use lib.ListN.{length, drop, length-drop}
-use borrow.Author.Tests.{eqb-true, eqb-false, eq-eqb, ne-eqb, le-leb, leb-true, leb-false, lt-leb, ltb-true, ltb-false}
-use Rattle.laws.specs.Search.{bit, count, every, means-every, place, seek, total}
-use Rattle.laws.specs.Tests.{and-both, and-left, and-right}
+use borrow.Author.Tests.{eqb-true, eq-eqb, ne-eqb, le-leb, lt-leb, ltb-true, ltb-false}
+use Rattle.laws.specs.Search.{count, every, means-every, place, seek, total}
+use Rattle.laws.specs.Tests.{and-both, and-left, and-right, one-truth, or-either, or-else}
 use Rattle.laws.specs.Walk.{left-next, left-none}
 use Rattle.record.specs.Codes.{kindFree}
 use Rattle.record.specs.Key.{keyOf}
@@ -45,14 +45,6 @@ same-key : (r x : Row) → hasKey (keyOf x) r ≡ true → keyOf r ≡ keyOf x
 unfolding hasKey
 same-key r x e = same-keys (keyOf r) (keyOf x) e
 
-pub or-right : (a b : Bool) → (a || b) ≡ true → a ≡ false → b ≡ true
-or-right true b e f = absurd (false≢true (sym f))
-or-right false b e f = e
-
-or-either : (a b : Bool) → (a ≡ false → b ≡ true) → (a || b) ≡ true
-or-either true b h = refl
-or-either false b h = h refl
-
 -- a row of this kind that is not free is not of the kind of free rows
 same-free : (r x : Row) → keyOf r ≡ keyOf x → is kindFree x ≡ false → is kindFree r ≡ false
 unfolding keyOf
@@ -69,12 +61,14 @@ alone-more r x l n m a =
     go f true e =
         let k = same-key r x e in
         let z = eqb-true (count (hasKey (keyOf r)) l) 0
-        (or-right (is kindFree r) (eqb (count (hasKey (keyOf r)) l) 0) n (same-free r x k f))
+        (or-else (is kindFree r) (eqb (count (hasKey (keyOf r)) l) 0) n (same-free r x k f))
         in
         let y = counted (hasKey (keyOf r)) l x m (rw k (own-key x)) in
         absurd (omega arith)
     go f false e =
-        let z = eqb-true (count (hasKey (keyOf x)) l) 1 (or-right (is kindFree x) (eqb (count (hasKey (keyOf x)) l) 1) a f) in
+        let z = eqb-true (count (hasKey (keyOf x)) l) 1
+        (or-else (is kindFree x) (eqb (count (hasKey (keyOf x)) l) 1) a f)
+        in
         rw e (eq-eqb (0 + count (hasKey (keyOf x)) l) 1 (omega arith))
 
 alone-here : (r : Row) (l : List Row) → nowhere r l ≡ true → alone (r ∷ l) r ≡ true
@@ -82,7 +76,9 @@ unfolding count total
 alone-here r l n =
     or-either (is kindFree r) (eqb (count (hasKey (keyOf r)) (r ∷ l)) 1)
     (λ f.
-    let z = eqb-true (count (hasKey (keyOf r)) l) 0 (or-right (is kindFree r) (eqb (count (hasKey (keyOf r)) l) 0) n f) in
+    let z = eqb-true (count (hasKey (keyOf r)) l) 0
+    (or-else (is kindFree r) (eqb (count (hasKey (keyOf r)) l) 0) n f)
+    in
     rw (own-key r) (eq-eqb (1 + count (hasKey (keyOf r)) l) 1 (omega arith)))
 
 all-alone : (l : List Row) → distinct l ≡ true → (x : Row) → List·Memᴰ x l → alone l x ≡ true
@@ -101,7 +97,7 @@ lone-nowhere r l a =
     or-either (is kindFree r) (eqb (count (hasKey (keyOf r)) l) 0)
     (λ f.
     let z = eqb-true (count (hasKey (keyOf r)) (r ∷ l)) 1
-    (or-right (is kindFree r) (eqb (count (hasKey (keyOf r)) (r ∷ l)) 1) a f)
+    (or-else (is kindFree r) (eqb (count (hasKey (keyOf r)) (r ∷ l)) 1) a f)
     in
     let y : 1 + count (hasKey (keyOf r)) l ≡ 1 = rw (own-key r) at z in
     eq-eqb (count (hasKey (keyOf r)) l) 0 (omega arith))
@@ -112,7 +108,7 @@ alone-less r x l m a =
     or-either (is kindFree x) (eqb (count (hasKey (keyOf x)) l) 1)
     (λ f.
     let z = eqb-true (count (hasKey (keyOf x)) (r ∷ l)) 1
-    (or-right (is kindFree x) (eqb (count (hasKey (keyOf x)) (r ∷ l)) 1) a f)
+    (or-else (is kindFree x) (eqb (count (hasKey (keyOf x)) (r ∷ l)) 1) a f)
     in
     let y = counted (hasKey (keyOf x)) l x m (own-key x) in
     eq-eqb (count (hasKey (keyOf x)) l) 1 (omega arith))
@@ -123,11 +119,6 @@ all-distinct [] h = refl
 all-distinct (r ∷ l) h =
     and-both (nowhere r l) (distinct l) (lone-nowhere r l (h r (List·Memᴰ·head refl)))
     (all-distinct l (λ x m. alone-less r x l m (h x (List·Memᴰ·tail m))))
-
-pub one-truth : (a b : Bool) → (a ≡ true → b ≡ true) → (b ≡ true → a ≡ true) → a ≡ b
-one-truth true b f g = sym (f refl)
-one-truth false true f g = g refl
-one-truth false false f g = refl
 
 distinct-is : (rs : List Row) → distinct rs ≡ s2 rs
 unfolding s2
@@ -165,7 +156,8 @@ module _ {b : List ℕ} {w : Bool} {i : ℕ} (s : Apart b w i) where
 
   pub apart-all : length b / 64 ≤ i → true ≡ w
   unfolding distinct
-  apart-all h = let l : distinct (drop i (rows b)) ≡ true = rw (left-none (rows b) i (rw length-rows h)) in sym l ∙ s .same
+  apart-all h =
+      let l : distinct (drop i (rows b)) ≡ true = rw (left-none (rows b) i (rw length-rows h)) in sym l ∙ s .same
 
 -- a search that comes to the end finds none
 seek-shift : {A : Type 0} (p : A → Bool) (j : ℕ) (l : List A) → seek p j l ≡ place p l + j

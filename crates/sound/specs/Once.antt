@@ -1,15 +1,16 @@
 -- In a book that keeps S2 a key stands once or not at all, so that what is counted by a key is what the one row says.
 -- Assumes nothing.
 use mathlib.Core.Path.{_≡_, refl, sym, ap, _∙_}
-use mathlib.Core.Bool.{Bool, true, false, not, _&&_}
+use mathlib.Core.Bool.{Bool, true, false, _&&_}
 use mathlib.Core.List.{List, [], _∷_}
-use Prim.Native.Nat.{ℕ, zero, suc, _+_, _≤_}
+use Prim.Native.Nat.{ℕ, _+_}
 use native.Mathlib.Nat.{zero-add}
 use native.Mathlib.Omega.{arith}
-use lib.Dec.{eqb, leb, ltb}
+use lib.Dec.{eqb}
 use lib.ListN.{length, getD, List·getD-eq-default}
 use borrow.Author.Tests.{eq-eqb, eqb-true, ne-eqb, leb-false, ltb-true, ltb-false}
 use Rattle.laws.specs.Search.{bit, count, place, the, total}
+use Rattle.laws.specs.Tests.{or-else}
 use Rattle.laws.specs.Walk.{from-holds}
 use Rattle.record.specs.Codes.{kindFree}
 use Rattle.record.specs.Key.{keyOf}
@@ -19,7 +20,6 @@ use Rattle.record.specs.declared.row.Row.{Row}
 use Rattle.model.specs.Rows.{found, hasKey, is, nothing, there}
 use Rattle.model.specs.Sound.{alone, s2}
 use Rattle.laws.specs.Place.{every-at, some-place, the-place}
-use Rattle.sound.specs.Distinct.{or-right}
 
 -- the row that is found has the key
 found-has : (k : Key) (rs : List Row) → there k rs ≡ true → hasKey k (found k rs) ≡ true
@@ -61,7 +61,7 @@ module _ (rs : List Row) (unique : s2 rs ≡ true) (k : Key) (named : k .kind �
       let z : found k rs .kind ≡ k .kind = ap (λ (x : Key). x .kind) q in
       let n : is kindFree (found k rs) ≡ false = ne-eqb (found k rs .kind) kindFree (λ u. named (sym z ∙ u)) in
       rw q at (eqb-true (count (hasKey (keyOf (found k rs))) rs) 1
-      (or-right (is kindFree (found k rs)) (eqb (count (hasKey (keyOf (found k rs))) rs) 1) a n))
+      (or-else (is kindFree (found k rs)) (eqb (count (hasKey (keyOf (found k rs))) rs) 1) a n))
 
   pub once : count (hasKey k) rs ≡ bit (there k rs)
   unfolding there

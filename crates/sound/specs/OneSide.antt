@@ -14,9 +14,10 @@ use mir.Facts.{toZ-pos}
 use mir.Syntax.{w64}
 use mir.Val.{toZ}
 use borrow.Author.Tests.{eq-eqb, eqb-true, le-ltb, leb-true, leb-false, ltb-true, ne-eqb}
-use Rattle.laws.specs.Place.{every-at, some-place, the-place}
+use Rattle.laws.specs.Place.{every-at, some-place}
 use Rattle.laws.specs.Search.{count, every, means-every, place, sumZ, total}
-use Rattle.laws.specs.Tests.{_⇔_, Means, and-both, and-left, and-right}
+use Rattle.laws.specs.Tests.{_⇔_, Means, and-both, and-left, and-right, one-truth, or-else, or-left, or-right}
+use Rattle.laws.specs.Tests.{or-swap}
 use Rattle.laws.specs.Walk.{from-holds}
 use Rattle.record.specs.Codes.{completed, kindLot, kindSummary}
 use Rattle.record.specs.Signed.{up, dn, toZ-high}
@@ -28,12 +29,12 @@ use Rattle.model.specs.Rows.{found, hasKey, is, nothing, there}
 use Rattle.model.specs.Sound.{each, equalZ, lotOf, lotRight, otherSign, s1, s8, sharesOf, short}
 use Rattle.model.specs.Sound.{summaryRight}
 use Rattle.tables.specs.Names.{by-holder}
-use Rattle.tables.specs.Sums.{sharesPart, side}
-use Rattle.sound.specs.Distinct.{one-truth, or-right}
+use Rattle.tables.specs.Sums.{sharesPart}
 
 -- what is counted and what is summed are none together
 none-alike : {A : Type 0} (p : A → Bool) (f : A → ℕ) (l : List A)
-    → ((x : A) → List·Memᴰ x l → (p x ≡ true → 1 ≤ f x) × (p x ≡ false → f x ≡ 0)) → eqb (count p l) 0 ≡ eqb (total f l) 0
+    → ((x : A) → List·Memᴰ x l → (p x ≡ true → 1 ≤ f x) × (p x ≡ false → f x ≡ 0))
+    → eqb (count p l) 0 ≡ eqb (total f l) 0
 unfolding count total
 none-alike p f [] h = refl
 none-alike p f (x ∷ l) h = go (p x) refl (h x (List·Memᴰ·head refl)) (none-alike p f l (λ y m. h y (List·Memᴰ·tail m)))
@@ -153,17 +154,6 @@ each-of k r x f = go (is k r) refl
     go true e = rw e (f e)
     go false e = rw e
 
-or-first : (a b : Bool) → a ≡ true → (a || b) ≡ true
-or-first a b e = rw e
-
-or-second : (a b : Bool) → b ≡ true → (a || b) ≡ true
-or-second true b e = refl
-or-second false b e = e
-
-or-swap : (a b : Bool) → (a || b) ≡ true → (b || a) ≡ true
-or-swap true b e = or-second b true refl
-or-swap false b e = or-first b false e
-
 member-total : (f : Row → ℕ) (l : List Row) (x : Row) → List·Memᴰ x l → 1 ≤ f x → 1 ≤ total f l
 unfolding total
 member-total f [] x m h = absurd (List·Memᴰ·not-nil m)
@@ -203,13 +193,13 @@ module _ (rs : List Row) (fit : s1 rs ≡ true) where
           let no = ne-eqb (total (sharesPart true (l .party) (l .symbol)) rs) 0 (λ q. omega arith) in
           let up = eqb (total (sharesPart false (l .party) (l .symbol)) rs) 0 in
           let down = eqb (total (sharesPart true (l .party) (l .symbol)) rs) 0 in
-          rw e (or-right down up (or-swap up down o) no)
+          rw e (or-else down up (or-swap up down o) no)
       go false e =
           let own = own-side l m k false e in
           let no = ne-eqb (total (sharesPart false (l .party) (l .symbol)) rs) 0 (λ q. omega arith) in
           let up = eqb (total (sharesPart false (l .party) (l .symbol)) rs) 0 in
           let down = eqb (total (sharesPart true (l .party) (l .symbol)) rs) 0 in
-          rw e (or-right up down o no)
+          rw e (or-else up down o no)
 
   -- the lot rule tells the sign of the whole holding
   side-told : (l : Row) → eqb (count (otherSign l) rs) 0 ≡ true → oneSided rs (l .party) (l .symbol) ≡ true
@@ -220,10 +210,10 @@ module _ (rs : List Row) (fit : s1 rs ≡ true) where
           (eqb (total (sharesPart true (l .party) (l .symbol)) rs) 0) ≡ true
           → oneSided rs (l .party) (l .symbol) ≡ true
       go true e h =
-          or-first (eqb (total (sharesPart false (l .party) (l .symbol)) rs) 0)
+          or-left (eqb (total (sharesPart false (l .party) (l .symbol)) rs) 0)
           (eqb (total (sharesPart true (l .party) (l .symbol)) rs) 0) (rw e at h)
       go false e h =
-          or-second (eqb (total (sharesPart false (l .party) (l .symbol)) rs) 0)
+          or-right (eqb (total (sharesPart false (l .party) (l .symbol)) rs) 0)
           (eqb (total (sharesPart true (l .party) (l .symbol)) rs) 0) (rw e at h)
 
   -- ---- both ways
@@ -271,7 +261,8 @@ module _ (rs : List Row) (fit : s1 rs ≡ true) where
           in
           let lot = each-has kindLot l (lotRight rs l) rule k in
           let z = and-right (tradeAgrees rs l) (eqb (count (otherSign l) rs) 0)
-          (and-left (tradeAgrees rs l && eqb (count (otherSign l) rs) 0) (there (aSummary (l .party) (l .symbol)) rs) lot)
+          (and-left (tradeAgrees rs l && eqb (count (otherSign l) rs) 0) (there (aSummary (l .party) (l .symbol)) rs)
+          lot)
           in
           and-both (summaryRight rs r) (oneSided rs (r .party) (r .symbol)) h (rw (p, y) at (side-told l z))
 
@@ -311,7 +302,8 @@ module _ (rs : List Row) (fit : s1 rs ≡ true) where
           in
           let z = sign-told r m k (rw (p, y) at o) in
           and-both (tradeAgrees rs r && eqb (count (otherSign r) rs) 0) (leb 1 (count q rs))
-          (and-both (tradeAgrees rs r) (eqb (count (otherSign r) rs) 0) (and-left (tradeAgrees rs r) (leb 1 (count q rs)) h) z)
+          (and-both (tradeAgrees rs r) (eqb (count (otherSign r) rs) 0)
+          (and-left (tradeAgrees rs r) (leb 1 (count q rs)) h) z)
           some
 
   pub holdings-kept : every (holdingKept rs) rs ≡ s8 rs

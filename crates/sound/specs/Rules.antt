@@ -1,43 +1,29 @@
 -- Each rule as the code decides it: by what is found, where the definition counts. Assumes nothing.
 use mathlib.Core.Path.{_≡_, refl, sym, ap, _∙_}
-use mathlib.Core.Bool.{Bool, true, false, cond, not, _&&_, _||_, false≢true}
-use mathlib.Core.List.{List, [], _∷_, List·Memᴰ, List·Memᴰ·head, List·Memᴰ·tail}
-use Prim.Native.Nat.{ℕ, zero, suc, _+_, _-_, _%_, _^_, _≤_}
-use native.Mathlib.Nat.{zero-add}
+use mathlib.Core.Bool.{Bool, true, false, not, _&&_, _||_}
+use mathlib.Core.List.{List, [], _∷_}
+use Prim.Native.Nat.{ℕ, _+_, _%_, _≤_}
 use native.Mathlib.Omega.{arith}
 use lib.Dec.{eqb, leb}
-use lib.IntN.{ℤ, pos, negsuc, _+ℤ_}
+use lib.IntN.{ℤ}
 use lib.ListN.{List·getD-eq-default}
-use lib.Signed.{ltZ}
-use mir.Facts.{toZ-pos}
 use mir.Syntax.{w64}
 use mir.Val.{toZ}
-use borrow.Author.Tests.{eq-eqb, eqb-true, eqb-false, le-leb, le-ltb, leb-true, leb-false, ne-eqb}
-use Rattle.laws.specs.Search.{bit, count, every, means-every, sumZ, total}
-use Rattle.laws.specs.Tests.{_⇔_, and-left}
-use Rattle.record.specs.Codes.{completed, kindLot, kindRequest, kindSettlement, kindCash, pending, tlb}
-use Rattle.record.specs.Signed.{up, dn, parts-add, leZ-is, toZ-high}
+use borrow.Author.Tests.{eq-eqb, eqb-true, eqb-false, leb-true, leb-false, ne-eqb}
+use Rattle.laws.specs.Search.{bit, count, every, sumZ, total}
+use Rattle.laws.specs.Tests.{_⇔_, and-assoc, and-true}
+use Rattle.record.specs.Codes.{completed, kindRequest, pending, tlb}
+use Rattle.record.specs.Signed.{up, dn, parts-add, leZ-is}
 use Rattle.record.specs.declared.key.Key.{Key}
 use Rattle.record.specs.declared.row.Row.{Row}
-use Rattle.rules.specs.Meaning.{means-lot}
-use Rattle.rules.specs.Rules.{as-kind, fits}
-use Rattle.model.specs.Flags.{cash}
-use Rattle.model.specs.Names.{aCash, aHistory, aRequest, aSettlement, aSummary, aTrade, anAccount, named, names}
+use Rattle.model.specs.Names.{aCash, aRequest, aSettlement, aTrade, anAccount, named, names}
 use Rattle.model.specs.Rows.{found, hasKey, is, there}
-use Rattle.model.specs.Sound.{agrees, equalZ, higher, historyRight, lotOf, namesKnown, requestRight, s1, s2, settled}
-use Rattle.model.specs.Sound.{lotRight, otherSign, settlementRight, sharesOf, short, summaryRight}
+use Rattle.model.specs.Sound.{agrees, equalZ, lotOf, namesKnown, requestRight, s2, settled}
+use Rattle.model.specs.Sound.{settlementRight, sharesOf}
 use Rattle.tables.specs.Sums.{sharesPart, side}
 use Rattle.sound.specs.Distinct.{none-left}
 use Rattle.sound.specs.OneSide.{summaryKept}
 use Rattle.sound.specs.Once.{found-kind, once, once-and}
-
-and-end : (a : Bool) → (a && true) ≡ a
-and-end true = refl
-and-end false = refl
-
-and-three : (a b c : Bool) → (a && (b && c)) ≡ (a && b && c)
-and-three true b c = refl
-and-three false b c = refl
 
 -- ---- S3
 module _ (rs : List Row) (r : Row) where
@@ -47,18 +33,18 @@ module _ (rs : List Row) (r : Row) where
 
   pub names-one : (a : Key) {x : Bool} → named r ≡ a ∷ [] → x ≡ there a rs → x ≡ namesKnown rs r
   unfolding every
-  names-one a e h = rw e (h ∙ sym (and-end (there a rs)))
+  names-one a e h = rw e (h ∙ sym (and-true (there a rs)))
 
   pub names-two : (a b : Key) {x y : Bool} → named r ≡ a ∷ b ∷ [] → x ≡ there a rs → y ≡ there b rs
       → (x && y) ≡ namesKnown rs r
   unfolding every
-  names-two a b e h k = rw e (rw (h, k, and-end (there b rs)))
+  names-two a b e h k = rw e (rw (h, k, and-true (there b rs)))
 
   pub names-three : (a b c : Key) {x y z : Bool} → named r ≡ a ∷ b ∷ c ∷ [] → x ≡ there a rs → y ≡ there b rs
       → z ≡ there c rs → (x && y && z) ≡ namesKnown rs r
   unfolding every
   names-three a b c e h k l =
-      rw e (rw (h, k, l, and-end (there c rs)) (sym (and-three (there a rs) (there b rs) (there c rs))))
+      rw e (rw (h, k, l, and-true (there c rs)) (sym (and-assoc (there a rs) (there b rs) (there c rs))))
 
 -- a kind that there is not names no row
 pub no-names : (r : Row) → 17 ≤ r .kind → named r ≡ []
@@ -75,16 +61,13 @@ agreesWith broker t r =
 abbrev asAsked : List Row → Row → Row → Bool
 asAsked rs t r = agreesWith (found (anAccount (t .party)) rs .n1) t r
 
-one-of-two : (a b : Bool) → (a && b) ≡ true → a ≡ true
-one-of-two true b e = refl
-one-of-two false b e = e
-
 and-six : (a b c d e f : Bool) → (a && (b && c && d && e && f)) ≡ (a && b && c && d && e && f)
 and-six true b c d e f = refl
 and-six false b c d e f = refl
 
 module _ (rs : List Row) (unique : s2 rs ≡ true) (t : Row) where
-  agrees-is : eqb (count (agrees rs t) rs) 1 ≡ (there (aRequest (t .id)) rs && asAsked rs t (found (aRequest (t .id)) rs))
+  agrees-is : eqb (count (agrees rs t) rs) 1
+      ≡ (there (aRequest (t .id)) rs && asAsked rs t (found (aRequest (t .id)) rs))
   agrees-is =
       let k = aRequest (t .id) in
       let e : (r : Row) → agrees rs t r ≡ (hasKey k r && asAsked rs t r) =
@@ -101,7 +84,7 @@ module _ (rs : List Row) (unique : s2 rs ≡ true) (t : Row) where
   request-pending e h k g =
       let z = found-kind (aRequest (t .id)) rs (λ q. omega arith) in
       rw (e, g, h, k, agrees-is, z)
-      (sym (and-three (leb tlb (t .form)) (there (aRequest (t .id)) rs) (asAsked rs t (found (aRequest (t .id)) rs))))
+      (sym (and-assoc (leb tlb (t .form)) (there (aRequest (t .id)) rs) (asAsked rs t (found (aRequest (t .id)) rs))))
 
   pub request-none : {x : Bool} → (t .status ≡ pending → ⊥) → x ≡ there (aRequest (t .id)) rs
       → not x ≡ requestRight rs t
@@ -126,7 +109,8 @@ sides account symbol (r ∷ l) =
     side-up : (account symbol : ℕ) (r : Row) → sharesPart false account symbol r ≡ up (sharesOf account symbol r)
     side-up account symbol r = go (lotOf account symbol r) refl
       where
-        go : (t : Bool) → lotOf account symbol r ≡ t → sharesPart false account symbol r ≡ up (sharesOf account symbol r)
+        go : (t : Bool) → lotOf account symbol r ≡ t
+            → sharesPart false account symbol r ≡ up (sharesOf account symbol r)
         go true e = rw e
         go false e = rw e
 

@@ -26,7 +26,8 @@ IdBucket k = (r : Row) → r .kind ≡ k → keyBucket r ≡ bucketOf k 0 0 0 (r
 id-bucket : (k : ℕ) → among k idKinds ≡ true → IdBucket k
 unfolding keyBucket keyOf
 id-bucket k e =
-    of-four IdBucket k kindTrade kindRequest kindSettlement kindCash (λ r h. rw h) (λ r h. rw h) (λ r h. rw h) (λ r h. rw h)
+    of-four IdBucket k kindTrade kindRequest kindSettlement kindCash (λ r h. rw h) (λ r h. rw h) (λ r h. rw h)
+    (λ r h. rw h)
     e
 
 abbrev PartyBucket : ℕ → Type 0
@@ -46,7 +47,8 @@ both-eq a x b y e =
 pub lot-bucket : (a s : ℕ) (r : Row) → lotOf a s r ≡ true → lotBucket r ≡ bucketOf kindLot 0 0 a 0 s
 unfolding lotBucket
 lot-bucket a s r e =
-    let ka = both-eq (r .kind) kindLot (r .party) a (and-left (is kindLot r && eqb (r .party) a) (eqb (r .symbol) s) e) in
+    let ka = both-eq (r .kind) kindLot (r .party) a
+    (and-left (is kindLot r && eqb (r .party) a) (eqb (r .symbol) s) e) in
     let sy = eqb-true (r .symbol) s (and-right (is kindLot r && eqb (r .party) a) (eqb (r .symbol) s) e) in
     rw (ka .0, ka .1, sy)
 

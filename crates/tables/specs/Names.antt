@@ -6,7 +6,7 @@ use mathlib.Core.Logic.{⊎-elim}
 use Prim.Native.Nat.{ℕ}
 use lib.Dec.{eqb}
 use borrow.Author.Tests.{eqb-true}
-use Rattle.laws.specs.Tests.{or-cases}
+use Rattle.laws.specs.Tests.{and-assoc, or-cases}
 use Rattle.record.specs.Codes.{kindAccount, kindBroker, kindCash, kindCustomer, kindRequest, kindSecurity}
 use Rattle.record.specs.Codes.{kindSettlement, kindSummary, kindTaxRate, kindTrade, kindTradeHistory}
 use Rattle.record.specs.Key.{among, keyOf, sameKey}
@@ -67,10 +67,6 @@ last-four : (a : Bool) → (a && true && true && true && true) ≡ a
 last-four true = refl
 last-four false = refl
 
-spread : (k a b : Bool) → (k && (a && b)) ≡ (k && a && b)
-spread true a b = refl
-spread false a b = refl
-
 abbrev ById : ℕ → Type 0
 ById k = (i : ℕ) (r : Row) → hasKey (byId k i) r ≡ ofId k i r
 
@@ -106,7 +102,7 @@ unfolding sameKey keyOf
 by-holder a s r =
     of-kind r (aSummary a s) (eqb (r .party) a && eqb (r .symbol) s)
     (λ h. rw h (both (eqb (r .party) a) (eqb (r .symbol) s)))
-    ∙ spread (is kindSummary r) (eqb (r .party) a) (eqb (r .symbol) s)
+    ∙ and-assoc (is kindSummary r) (eqb (r .party) a) (eqb (r .symbol) s)
   where
     both : (a b : Bool) → (a && true && b && true && true) ≡ (a && b)
     both true true = refl
@@ -118,7 +114,7 @@ unfolding sameKey keyOf
 by-status i s r =
     of-kind r (aHistory i s) (eqb (r .id) i && eqb (r .status) s)
     (λ h. rw h (both (eqb (r .status) s) (eqb (r .id) i)))
-    ∙ spread (is kindTradeHistory r) (eqb (r .id) i) (eqb (r .status) s)
+    ∙ and-assoc (is kindTradeHistory r) (eqb (r .id) i) (eqb (r .status) s)
   where
     both : (a b : Bool) → (a && true && true && b && true && true && true) ≡ (b && a)
     both true true = refl

@@ -2,29 +2,29 @@
 -- those held and those owed apart. Assumes nothing.
 use mathlib.Core.Path.{_≡_, refl, sym, ap, _∙_}
 use mathlib.Core.Bool.{Bool, true, false, cond, _&&_}
-use mathlib.Core.List.{List, [], _∷_}
-use Prim.Native.Nat.{ℕ, _+_, _-_, _/_, _≤_, _<_}
+use mathlib.Core.List.{List}
+use Prim.Native.Nat.{ℕ, _+_, _-_, _*_, _/_, _≤_, _<_}
 use native.Mathlib.Omega.{arith}
 use lib.Dec.{eqb, leb, ltb}
-use lib.IntN.{ℤ, pos, negsuc, natAbs, _+ℤ_}
+use lib.IntN.{ℤ, pos, negsuc, natAbs}
 use lib.ListN.{length}
-use lib.Signed.{leZ, ltZ}
+use lib.Signed.{ltZ}
 use mir.Facts.{toZ-pos}
 use mir.Syntax.{w64}
 use mir.Val.{toZ}
-use borrow.Author.Tests.{eqb-true, leb-true, leb-false, le-leb, le-ltb}
-use Rattle.laws.specs.Search.{bit, sumZ, total}
+use borrow.Author.Tests.{eqb-true, leb-true, leb-false, le-ltb}
+use Rattle.laws.specs.Search.{bit, count, total}
 use Rattle.laws.specs.Tests.{and-left, and-right}
 use Rattle.record.specs.Codes.{kindBand, kindCustomerRate, kindLot, kindTradeHistory}
 use Rattle.record.specs.Key.{keyOf}
-use Rattle.record.specs.Signed.{up, dn, parts-add, leZ-is, toZ-high}
+use Rattle.record.specs.Signed.{up, dn, toZ-high}
 use Rattle.record.specs.declared.row.Row.{Row}
 use Rattle.rules.specs.Meaning.{means-lot}
 use Rattle.rules.specs.Ranges.{sharesMost}
 use Rattle.rules.specs.Rules.{as-kind, fits}
 use Rattle.model.specs.Names.{aHistory, aTaxRate}
-use Rattle.model.specs.Rows.{found, hasKey, is, nothing, rows}
-use Rattle.model.specs.Sound.{lotOf, overlaps, rateOf, s1, sharesOf}
+use Rattle.model.specs.Rows.{found, hasKey, is, mostRecords, nothing, rows, there}
+use Rattle.model.specs.Sound.{lotOf, overlaps, rateOf, s1}
 use Rattle.shelf.specs.Rows.{length-rows, rowAt}
 use Rattle.tables.specs.Bucket.{bucketOf, keyBucket, lotBucket}
 use Rattle.tables.specs.Names.{by-status, ofId, ofParty}
@@ -57,7 +57,8 @@ band-bucket a r e =
     let same-flags = eqb-true (a .flags) (r .flags) (and-right (k && f && s) g h) in
     rw (eqb-true (r .kind) kindBand (and-left k f kf), same-form, same-flags)
 
-pub bands-counted : (a : Row) → Counted keyBucket (λ r. bit (overlaps a r)) 1 (bucketOf kindBand (a .form) (a .flags) 0 0 0)
+pub bands-counted : (a : Row)
+    → Counted keyBucket (λ r. bit (overlaps a r)) 1 (bucketOf kindBand (a .form) (a .flags) 0 0 0)
 bands-counted a =
     only-keyed keyBucket (overlaps a) (λ r. bit (overlaps a r)) 1 (bucketOf kindBand (a .form) (a .flags) 0 0 0)
     (record { all = band-bucket a }) (λ r q. rw q)
@@ -102,6 +103,10 @@ side false x = up (toZ w64 x)
 
 abbrev pub sharesPart : Bool → ℕ → ℕ → Row → ℕ
 sharesPart owed account symbol r = cond (lotOf account symbol r) (side owed (r .m1)) 0
+
+-- x is the sum over a book's rows, which are few
+abbrev pub HoldsSide : Bool → ℕ → ℕ → List Row → ℕ → Type 0
+HoldsSide owed account symbol rs x = (x ≡ total (sharesPart owed account symbol) rs) × (x ≤ sharesMost * mostRecords)
 
 pub shares-counted : (owed : Bool) (account symbol : ℕ)
     → Counted lotBucket (sharesPart owed account symbol) sharesMost (bucketOf kindLot 0 0 account 0 symbol)
@@ -152,12 +157,17 @@ part-no owed account symbol r h e = rw (sym h ∙ e)
 pub lots-counted : (account symbol : ℕ)
     → Counted lotBucket (λ r. bit (lotOf account symbol r)) 1 (bucketOf kindLot 0 0 account 0 symbol)
 lots-counted account symbol =
-    only-keyed lotBucket (lotOf account symbol) (λ r. bit (lotOf account symbol r)) 1 (bucketOf kindLot 0 0 account 0 symbol)
+    only-keyed lotBucket (lotOf account symbol) (λ r. bit (lotOf account symbol r)) 1
+    (bucketOf kindLot 0 0 account 0 symbol)
     (record { all = lot-bucket account symbol }) (λ r q. rw q)
 
 -- ---- histories
 abbrev pub higherThan : ℕ → ℕ → Row → Bool
 higherThan id status r = ofId kindTradeHistory id r && ltb status (r .status)
+
+-- a trade has the history of its status, and none of a higher one
+abbrev pub historyKept : List Row → ℕ → ℕ → Bool
+historyKept rs id status = there (aHistory id status) rs && eqb (count (higherThan id status) rs) 0
 
 pub history-counted : (id status : ℕ)
     → Counted keyBucket (λ r. bit (hasKey (aHistory id status) r)) 1 (bucketOf kindTradeHistory 0 0 0 id 0)

@@ -1,15 +1,14 @@
 // Counts and sums over the rows of one bucket.
 ghost use mathlib.Core.Path.{_≡_};
-ghost use mathlib.Core.Bool.{false, true, _&&_};
+ghost use mathlib.Core.Bool.{false, true};
 ghost use Prim.Native.Nat.{_≤_};
-ghost use lib.Dec.{eqb};
-ghost use Rattle.laws.specs.Search.{bit, count, total};
+ghost use Rattle.laws.specs.Search.{bit, count};
 ghost use Rattle.rules.specs.Rules.{fits};
 ghost use Rattle.model.specs.Names.{aHistory};
-ghost use Rattle.model.specs.Rows.{hasKey, rows, there};
+ghost use Rattle.model.specs.Rows.{hasKey, rows};
 ghost use Rattle.model.specs.Sound.{lotOf, overlaps, rateOf, ratesOf, s1};
 ghost use Rattle.tables.specs.Bucket.{keyBucket, lotBucket};
-ghost use Rattle.tables.specs.Sums.{higherThan, sharesPart, side};
+ghost use Rattle.tables.specs.Sums.{HoldsSide, higherThan, historyKept, sharesPart, side};
 ghost use Rattle.tables.specs.Table.{Indexed};
 use crate::bucket::bucket;
 use crate::table::Slots;
@@ -136,8 +135,8 @@ pub fn holding(book: &[u8], lots: &[u16; Slots::ALL], account: u32, symbol: u64)
     requires { ⌜ Indexed lotBucket (now book) (now lots) 0 ⌝ }
     requires { ⌜ s1 (rows (now book)) ≡ true ⌝ }
     ensures { λ r. ⌜ r .lots ≡ count (lotOf account symbol) (rows (now (book .entry))) ⌝ }
-    ensures { λ r. ⌜ (r .long ≡ total (sharesPart false account symbol) (rows (now (book .entry)))) × (r .long ≤ 4095995904) ⌝ }
-    ensures { λ r. ⌜ (r .owed ≡ total (sharesPart true account symbol) (rows (now (book .entry)))) × (r .owed ≤ 4095995904) ⌝ }
+    ensures { λ r. ⌜ HoldsSide false account symbol (rows (now (book .entry))) (r .long) ⌝ }
+    ensures { λ r. ⌜ HoldsSide true account symbol (rows (now (book .entry))) (r .owed) ⌝ }
 {
     let n = book.len() / Grid::SIZE;
     let h = bucket(Kind::LOT, 0, 0, account, 0, symbol);
@@ -183,7 +182,7 @@ fn higher_bit(id: u64, status: u8, row: Row) -> usize
 // A trade has the history of its status, and none of a higher one.
 pub fn historied(book: &[u8], keys: &[u16; Slots::ALL], id: u64, status: u8) -> bool
     requires { ⌜ Indexed keyBucket (now book) (now keys) 0 ⌝ }
-    ensures { λ r. ⌜ r ≡ (there (aHistory id status) (rows (now (book .entry))) && eqb (count (higherThan id status) (rows (now (book .entry)))) 0) ⌝ }
+    ensures { λ r. ⌜ r ≡ historyKept (rows (now (book .entry))) id status ⌝ }
 {
     let n = book.len() / Grid::SIZE;
     let h = bucket(Kind::TRADE_HISTORY, 0, 0, 0, id, 0);

@@ -1,6 +1,7 @@
 //! `bench [ROUNDS]`: how long a check of soundness takes, by the book's size: the proved one, the second
-//! program's, and a copy of the book's bytes as the yardstick. Each goes over all books in turn, so that no
-//! call meets the book that it has just met, and the medians are printed.
+//! program's, and a copy of the book's bytes as the yardstick, all in one run. Once each goes over all books in
+//! turn, so that no call meets the book that it has just met, and once each meets one book again and again. The
+//! medians are printed.
 
 use second::gen;
 use second::mutate;
@@ -70,38 +71,29 @@ fn compare(rng: &mut Rng, records: usize) {
     }
 }
 
-/// The median times of a copy, of the proved check and of the second program's.
-fn medians(records: usize, rounds: usize) -> [f64; 3] {
+/// The median times of a copy, of the proved check and of the second program's. Books are met in turn by so many.
+fn medians(records: usize, rounds: usize, by: usize) -> [f64; 3] {
     let mut rng = Rng::new(records as u64);
     compare(&mut rng, records);
     let books: Vec<Vec<u8>> = (0..BOOKS).map(|_| gen::book(&mut rng, records)).collect();
     let mut area = books[0].clone();
-    let repeats = [0, 1, 2].map(|task| repeats_for(task, &books, &mut area));
+    let repeats = [0, 1, 2].map(|task| repeats_for(task, &books[..by], &mut area));
     let mut times = [Vec::new(), Vec::new(), Vec::new()];
     for _ in 0..rounds {
-        for task in 0..TASKS.len() {
-            times[task].push(measure(task, repeats[task], &books, &mut area));
+        for group in books.chunks(by) {
+            for task in 0..TASKS.len() {
+                times[task].push(measure(task, repeats[task], group, &mut area));
+            }
         }
     }
     times.map(median)
 }
 
-fn main() {
-    let rounds = match std::env::args().nth(1).map(|word| word.parse()) {
-        None => ROUNDS,
-        Some(Ok(rounds)) if rounds > 0 => rounds,
-        Some(_) => {
-            eprintln!("usage: bench [ROUNDS]");
-            std::process::exit(2);
-        }
-    };
-    println!(
-        "medians of {rounds} rounds over {BOOKS} sound books, in microseconds; ratios to the copy"
-    );
+fn table(rounds: usize, by: usize) {
     println!("records       copy     proved     second   proved:copy   second:copy");
     let mut proved = Vec::new();
     for records in SIZES {
-        let [copy, ours, second] = medians(records, rounds);
+        let [copy, ours, second] = medians(records, rounds, by);
         let [a, b, c] = [copy, ours, second].map(|seconds| seconds * 1e6);
         println!(
             "{records:7} {a:10.3} {b:10.3} {c:10.3} {:13.1} {:13.1}",
@@ -114,4 +106,20 @@ fn main() {
         "proved, 4,096 to 512 records: {:.1} (8 is linear)",
         proved[2] / proved[1]
     );
+}
+
+fn main() {
+    let rounds = match std::env::args().nth(1).map(|word| word.parse()) {
+        None => ROUNDS,
+        Some(Ok(rounds)) if rounds > 0 => rounds,
+        Some(_) => {
+            eprintln!("usage: bench [ROUNDS]");
+            std::process::exit(2);
+        }
+    };
+    println!("medians over {BOOKS} sound books, in microseconds; ratios to the copy");
+    println!("\nthe books in turn, {rounds} rounds:");
+    table(rounds, BOOKS);
+    println!("\none book again and again, 15 rounds:");
+    table(15, 1);
 }

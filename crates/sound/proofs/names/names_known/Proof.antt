@@ -26,13 +26,15 @@ returns-5 : tie.Need-returns-5
 unfolding named
 returns-5 c =
     let r = c .before .before .before .before .args .r in
-    names-two _ r (aCustomer (r .party)) (aTaxRate (r .n1)) (rw (c .before .before .match .keys5)) (c .before .party-there .ensures) (c .party-there2 .ensures)
+    names-two _ r (aCustomer (r .party)) (aTaxRate (r .n1)) (rw (c .before .before .match .keys5))
+    (c .before .party-there .ensures) (c .party-there2 .ensures)
 
 returns-6 : tie.Need-returns-6
 unfolding named
 returns-6 c =
     let r = c .before .before .before .before .args .r in
-    names-two _ r (aBroker (r .n1)) (aCustomer (r .n2)) (rw (c .before .before .match .keys6)) (c .before .party-there3 .ensures) (c .party-there4 .ensures)
+    names-two _ r (aBroker (r .n1)) (aCustomer (r .n2)) (rw (c .before .before .match .keys6))
+    (c .before .party-there3 .ensures) (c .party-there4 .ensures)
 
 returns-7 : tie.Need-returns-7
 unfolding named
@@ -50,13 +52,15 @@ returns-10 : tie.Need-returns-10
 unfolding named
 returns-10 c =
     let r = c .before .before .before .before .args .r in
-    names-two _ r (anAccount (r .party)) (aSecurity (r .symbol)) (rw (c .before .before .match .keys10)) (c .before .party-there5 .ensures) (c .security-there .ensures)
+    names-two _ r (anAccount (r .party)) (aSecurity (r .symbol)) (rw (c .before .before .match .keys10))
+    (c .before .party-there5 .ensures) (c .security-there .ensures)
 
 returns-11 : tie.Need-returns-11
 unfolding named
 returns-11 c =
     let r = c .before .before .before .before .before .args .r in
-    names-three _ r (aTrade (r .id)) (aBroker (r .party)) (aSecurity (r .symbol)) (rw (c .before .before .before .match .keys11)) (c .before .before .id-there .ensures)
+    names-three _ r (aTrade (r .id)) (aBroker (r .party)) (aSecurity (r .symbol))
+    (rw (c .before .before .before .match .keys11)) (c .before .before .id-there .ensures)
     (c .before .party-there6 .ensures) (c .security-there2 .ensures)
 
 returns-12 : tie.Need-returns-12
@@ -69,20 +73,23 @@ returns-13 : tie.Need-returns-13
 unfolding named
 returns-13 c =
     let r = c .before .before .before .before .before .args .r in
-    names-three _ r (aTrade (r .id)) (anAccount (r .party)) (aSecurity (r .symbol)) (rw (c .before .before .before .match .keys13)) (c .before .before .id-there3 .ensures)
+    names-three _ r (aTrade (r .id)) (anAccount (r .party)) (aSecurity (r .symbol))
+    (rw (c .before .before .before .match .keys13)) (c .before .before .id-there3 .ensures)
     (c .before .party-there7 .ensures) (c .security-there3 .ensures)
 
 returns-14 : tie.Need-returns-14
 unfolding named
 returns-14 c =
     let r = c .before .before .before .before .args .r in
-    names-two _ r (anAccount (r .party)) (aSecurity (r .symbol)) (rw (c .before .before .match .keys14)) (c .before .party-there8 .ensures) (c .security-there4 .ensures)
+    names-two _ r (anAccount (r .party)) (aSecurity (r .symbol)) (rw (c .before .before .match .keys14))
+    (c .before .party-there8 .ensures) (c .security-there4 .ensures)
 
 returns-15 : tie.Need-returns-15
 unfolding named
 returns-15 c =
     let r = c .before .before .before .before .args .r in
-    names-two _ r (aTrade (r .id)) (aTrade (r .m2)) (rw (c .before .before .match .keys15)) (c .before .id-there4 .ensures) (c .id-there5 .ensures)
+    names-two _ r (aTrade (r .id)) (aTrade (r .m2)) (rw (c .before .before .match .keys15))
+    (c .before .id-there4 .ensures) (c .id-there5 .ensures)
 
 returns-16 : tie.Need-returns-16
 unfolding named
@@ -97,7 +104,8 @@ returns-17 c =
     names-one _ r (aTrade (r .id)) (rw (c .before .match .keys17)) (c .id-there7 .ensures)
 
 returns-18 : tie.Need-returns-18
-returns-18 c = names-none _ (c .before .before .args .r) (no-names (c .before .before .args .r) (missed 17 _ (c .match .rest)))
+returns-18 c =
+    names-none _ (c .before .before .args .r) (no-names (c .before .before .args .r) (missed 17 _ (c .match .rest)))
 
 pub names-known-spec : {M : Type 1} → statement M
 names-known-spec =

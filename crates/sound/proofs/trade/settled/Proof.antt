@@ -6,7 +6,9 @@ use Rattle.sound.proofs.trade.settled.Statement.{statement}
 use Rattle.sound.proofs.trade.settled.Tie as tie
 
 returns : tie.Need-returns
-returns c = c .alike .ensures ∙ settled-is _ (c .before .before .before .before .pre .1) (c .before .before .before .before .args .t) (c .before .before .id-there .ensures)
+returns c =
+    c .alike .ensures ∙ settled-is _ (c .before .before .before .before .pre .1)
+    (c .before .before .before .before .args .t) (c .before .before .id-there .ensures)
 
 pub settled-spec : {M : Type 1} → statement M
 settled-spec = tie.close (tie.spec (λ c κs. search needs) (λ c κs. search needs) returns)

@@ -28,7 +28,8 @@ returns-8 c = of-cash _ (c .before .before .before .args .r) (c .before .match .
 returns-9 : tie.Need-returns-9
 returns-9 c =
     let none = c .match .rest in
-    of-other _ (c .before .before .args .r) (none .0 .0 .0 .0 .0 .0 .0 .1) (none .0 .0 .0 .0 .0 .0 .1) (none .0 .0 .0 .0 .0 .1)
+    of-other _ (c .before .before .args .r) (none .0 .0 .0 .0 .0 .0 .0 .1) (none .0 .0 .0 .0 .0 .0 .1)
+    (none .0 .0 .0 .0 .0 .1)
     (none .0 .0 .0 .0 .1) (none .0 .0 .0 .1) (none .0 .0 .1) (none .0 .1) (none .1)
 
 pub kind-right-spec : {M : Type 1} → statement M

@@ -10,8 +10,10 @@ returns c = unfit _ (c .before .all-fit .ensures) (c .if1 .taken)
 
 build-requires : tie.Need-build-requires
 build-requires c κs =
-    let none = c .before .before .narrow in
-    (c .before .before .before .before .before .before .pre, (blank-of _ _ (none .ensures), blank-of _ _ (none .ensures)))
+    let none = c .before .before .narrow in (
+      c .before .before .before .before .before .before .pre,
+      (blank-of _ _ (none .ensures), blank-of _ _ (none .ensures)),
+    )
 
 returns-2 : tie.Need-returns-2
 returns-2 c =

@@ -5,7 +5,9 @@ use Rattle.sound.proofs.whole.trade_right.Statement.{statement}
 use Rattle.sound.proofs.whole.trade_right.Tie as tie
 
 returns : tie.Need-returns
-returns c = of-trade _ (c .before .before .before .before .args .t) (c .before .before .before .before .pre .1 .1) (c .before .before .requested .ensures) (c .before .historied .ensures) (c .settled .ensures)
+returns c =
+    of-trade _ (c .before .before .before .before .args .t) (c .before .before .before .before .pre .1 .1)
+    (c .before .before .requested .ensures) (c .before .historied .ensures) (c .settled .ensures)
 
 pub trade-right-spec : {M : Type 1} → statement M
 trade-right-spec =

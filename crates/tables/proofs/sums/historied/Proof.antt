@@ -1,7 +1,6 @@
 -- The invariant, for both counts: the count so far and that of what is left make the whole; a link skips only rows of
 -- other buckets, which count nothing. The measure is the number of places left. Assumes nothing.
 use Prim.Native.Nat.{_-_}
-use mathlib.Core.Path.{_≡_}
 use Rattle.laws.specs.Search.{bit, count}
 use Rattle.record.specs.Codes.{kindTradeHistory}
 use Rattle.model.specs.Names.{aHistory}
@@ -34,7 +33,8 @@ loop-holds c =
     )
 
 loop-again : tie.Need-loop-again Inv-loop μ-loop
-loop-again c = (search (needs, tables, history-counted, higher-counted), search (needs, tables, history-counted, higher-counted))
+loop-again c =
+    (search (needs, tables, history-counted, higher-counted), search (needs, tables, history-counted, higher-counted))
 
 returns : tie.Need-returns Inv-loop μ-loop
 unfolding there

@@ -29,10 +29,24 @@ abbrev μ-loop : tie.MeasureT-loop
 
 loop-holds : tie.Need-loop-holds Inv-loop μ-loop
 unfolding count
-loop-holds c = (search (needs, tables, lots-counted, shares-counted, fits-there), (search (needs, tables, lots-counted, shares-counted, fits-there), search (needs, tables, lots-counted, shares-counted, fits-there)))
+loop-holds c = (
+  search (needs, tables, lots-counted, shares-counted, fits-there),
+  (
+    search (needs, tables, lots-counted, shares-counted, fits-there),
+    search
+        (needs, tables, lots-counted, shares-counted, fits-there),
+  ),
+)
 
 loop-again : tie.Need-loop-again Inv-loop μ-loop
-loop-again c = (search (needs, tables, lots-counted, shares-counted, fits-there), (search (needs, tables, lots-counted, shares-counted, fits-there), search (needs, tables, lots-counted, shares-counted, fits-there)))
+loop-again c = (
+  search (needs, tables, lots-counted, shares-counted, fits-there),
+  (
+    search (needs, tables, lots-counted, shares-counted, fits-there),
+    search
+        (needs, tables, lots-counted, shares-counted, fits-there),
+  ),
+)
 
 returns : tie.Need-returns Inv-loop μ-loop
 returns c =

@@ -12,7 +12,8 @@ use Rattle.tables.proofs.table.by_symbol.Tie as tie
 
 abbrev Inv-loop : tie.InvT-loop
 Inv-loop book keys symbol n h c₀ c =
-    Probed keyBucket (hasKey (aSecurity symbol)) (bucketOf kindSecurity 0 0 0 0 symbol) book (place (hasKey (aSecurity symbol)) (rows book)) c
+    Probed keyBucket (hasKey (aSecurity symbol)) (bucketOf kindSecurity 0 0 0 0 symbol) book
+    (place (hasKey (aSecurity symbol)) (rows book)) c
 
 abbrev μ-loop : tie.MeasureT-loop
 μ-loop book keys symbol n h c₀ c = n - c
