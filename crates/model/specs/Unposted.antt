@@ -1,5 +1,5 @@
--- Calls that leave every byte of the book: one that is refused, a lookup, and an order with roll back, whatever they are
--- given. Assumes nothing.
+-- Calls that leave every byte of the book: one that is refused, a lookup, and an order with roll back, whatever they
+-- are given. Assumes nothing.
 use mathlib.Core.Path.{_≡_, refl, ap, _∙_}
 use mathlib.Core.Bool.{Bool, true, false, _&&_}
 use mathlib.Core.List.{List}
@@ -11,7 +11,8 @@ use Rattle.record.specs.Bytes.{Bytes}
 use Rattle.record.specs.Grid.{decode}
 use Rattle.record.specs.declared.row.Row.{Row}
 use Rattle.rules.specs.Rules.{lookupInput, orderInput}
-use Rattle.model.specs.Call.{choose, either, isDone, lookupCall, mostInputs, orderCall, refusalArea, replied, shell}
+use Rattle.model.specs.Call.{choose, either, isDone, lookupCall, mostInputs, orderCall, refusalArea, replied}
+use Rattle.model.specs.Call.{shell}
 use Rattle.model.specs.Flags.{rollBack}
 use Rattle.model.specs.Lookup.{looked, lookup}
 use Rattle.model.specs.Names.{aTrade}
@@ -64,7 +65,8 @@ module _ (b answer : List ℕ) (bs : Bytes b) (decide : List Row → Outcome) (s
       go true true e true false = refl
       go true true e true true = reply-keeps (decide (rows b)) same e
 
-looks-only : (t : Bool) (rs inputs : List Row) → pick t (accepted (looked rs inputs) rs) (refused LookupNoTrade rs) .rows ≡ rs
+looks-only : (t : Bool) (rs inputs : List Row)
+    → pick t (accepted (looked rs inputs) rs) (refused LookupNoTrade rs) .rows ≡ rs
 looks-only true rs inputs = refl
 looks-only false rs inputs = refl
 

@@ -1,5 +1,6 @@
 -- What is left of the rules at a row of each kind. Assumes nothing.
-use Rattle.sound.specs.ByRow.{of-band, of-cash, of-customer, of-lot, of-lot-history, of-other, of-settlement, of-summary}
+use Rattle.sound.specs.ByRow.{of-band, of-cash, of-customer, of-lot, of-lot-history, of-other, of-settlement}
+use Rattle.sound.specs.ByRow.{of-summary}
 use borrow.Author.Needs.{needs}
 use Rattle.sound.proofs.whole.kind_right.Statement.{statement}
 use Rattle.sound.proofs.whole.kind_right.Tie as tie

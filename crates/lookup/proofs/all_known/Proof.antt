@@ -1,0 +1,32 @@
+-- The invariant: the records from place i on decide the whole. The measure is the number of records left. Assumes
+-- nothing.
+use Prim.Native.Nat.{_-_}
+use Rattle.model.specs.Names.{aTrade}
+use Rattle.model.specs.Rows.{rows, there}
+use Rattle.lookup.specs.Fill.{allKnown}
+use borrow.Author.Needs.{needs}
+use Rattle.shelf.specs.Loop.{Checked, loops}
+use Rattle.lookup.proofs.all_known.Statement.{statement}
+use Rattle.lookup.proofs.all_known.Tie as tie
+
+abbrev Inv-loop : tie.InvT-loop
+Inv-loop book keys input n i₀ i =
+    Checked (λ r. there (aTrade (r .id)) (rows book)) input (allKnown (rows book) (rows input)) i
+
+abbrev μ-loop : tie.MeasureT-loop
+μ-loop book keys input n i₀ i = n - i
+
+pub all-known-spec : {M : Type 1} → statement M
+all-known-spec =
+    tie.close
+    (tie.spec
+    Inv-loop
+    μ-loop
+    (λ c. search (needs, loops))
+    (λ c κs. search (needs, loops))
+    (λ c κs. search (needs, loops))
+    (λ c. search (needs, loops))
+    (λ c. search (needs, loops))
+    (λ c. search (needs, loops))
+    (λ c. search (needs, loops))
+    (λ c. search (needs, loops)))

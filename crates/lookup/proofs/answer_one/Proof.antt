@@ -1,0 +1,28 @@
+-- The two rows are put one after the other; each put keeps the length. Assumes nothing.
+use mathlib.Core.Path.{_∙_, ap}
+use lib.ListN.{length}
+use Rattle.shelf.specs.Rows.{length-putAt}
+use borrow.Author.Needs.{needs}
+use Rattle.lookup.proofs.answer_one.Statement.{statement}
+use Rattle.lookup.proofs.answer_one.Tie as tie
+
+returns : tie.Need-returns
+returns c =
+    let two = c .before .before in
+    let one = c .before .before .before .before .before .before .before in (
+      ap length (two .put2 .ensures .0) ∙ length-putAt _ _ _ ∙ ap length (one .put .ensures .0) ∙ length-putAt _ _ _,
+      two .put2 .ensures .1 ∙ rw (one .put .ensures .1, two .before .id-row2 .ensures, one .before .id-row .ensures),
+    )
+
+pub answer-one-spec : {M : Type 1} → statement M
+answer-one-spec =
+    tie.close
+    (tie.spec
+    (λ c. search needs)
+    (λ c κs. search needs)
+    (λ c κs. search needs)
+    (λ c. search needs)
+    (λ c κs. search needs)
+    (λ c κs. search needs)
+    (λ c. search needs)
+    returns)

@@ -1,0 +1,113 @@
+-- A loop that answers each record of an input with two rows, in their turn. Assumes nothing.
+use mathlib.Core.Path.{_≡_, refl, sym, ap, _∙_}
+use mathlib.Core.Bool.{Bool, true, false, cond, _&&_}
+use mathlib.Core.List.{List, [], _∷_, append-nil}
+use Prim.Native.Nat.{ℕ, suc, _+_, _*_, _/_, _%_, _≤_, _<_}
+use native.Mathlib.Omega.{arith}
+use lib.Dec.{eqb, leb}
+use lib.ListN.{length, drop, set, drop-of-length-le}
+use lib.Seq.{sets, sets-eq}
+use borrow.Author.Tests.{eq-eqb, eqb-true, le-leb, leb-true}
+use Rattle.laws.specs.Search.{every}
+use Rattle.laws.specs.Tests.{and-both, and-left, and-right}
+use Rattle.laws.specs.Walk.{left-next, left-none}
+use Rattle.record.specs.declared.row.Row.{Row}
+use Rattle.record.specs.Bytes.{Bytes}
+use Rattle.model.specs.Lookup.{looked, lookup}
+use Rattle.model.specs.Names.{aSettlement, aTrade}
+use Rattle.model.specs.Rows.{bytes, found, nothing, rows, there, wholeRecords}
+use Rattle.model.specs.RowsLaws.{bytes-rows}
+use Rattle.model.specs.declared.Status.the-variants.{Done, LookupNoTrade}
+use Rattle.shelf.specs.Rows.{length-rows, rowAt}
+
+-- every record names a trade that is there
+abbrev pub allKnown : List Row → List Row → Bool
+allKnown rs inputs = every (λ (i : Row). there (aTrade (i .id)) rs) inputs
+
+-- the rows of an area with the two rows of record i in their places
+abbrev pub answered : List Row → Row → ℕ → List Row → List Row
+answered rs asked i area =
+    set (set area (i * 2) (found (aTrade (asked .id)) rs)) (i * 2 + 1) (found (aSettlement (asked .id)) rs)
+
+-- an area that had these rows has the two in their places
+abbrev pub Answers : List ℕ → Row → ℕ → List ℕ → List ℕ → Type 0
+Answers b asked i area next = rows next ≡ answered (rows b) asked i (rows area)
+
+-- what is left of the input, answered into the area as it is, leads to w
+pub record Filled (rs : List Row) (input : List ℕ) (w : List Row) (area : List ℕ) (i : ℕ) : Type 0 where
+  pub within : i ≤ length input / 64
+  pub same : sets (rows area) (i * 2) (looked rs (drop i (rows input))) ≡ w
+
+pub fill-start : (rs : List Row) (input area : List ℕ)
+    → Filled rs input (sets (rows area) 0 (looked rs (rows input))) area 0
+fill-start rs input area = record { within = omega arith; same = refl }
+
+module _ {rs : List Row} {input area : List ℕ} {w : List Row} {i : ℕ} (s : Filled rs input w area i) where
+  pub fill-more : (next : List ℕ) {r : Row} → i < length input / 64 → r ≡ rowAt input i
+      → rows next ≡ answered rs r i (rows area) → Filled rs input w next (i + 1)
+  unfolding looked
+  fill-more next {r} h a p =
+      let l : looked rs (drop i (rows input))
+      ≡ found (aTrade (r .id)) rs ∷ found (aSettlement (r .id)) rs ∷ looked rs (drop (i + 1) (rows input)) =
+      rw (left-next (rows input) i nothing (rw length-rows h), a)
+      in
+      let n : (i + 1) * 2 ≡ suc (suc (i * 2)) = omega arith in
+      let k : i * 2 + 1 ≡ suc (i * 2) = omega arith in
+      record { within = omega arith; same = rw (p, n, k) (rw l at (s .same)) }
+
+  pub fill-all : length input / 64 ≤ i → rows area ≡ w
+  unfolding looked
+  fill-all h =
+      let l : sets (rows area) (i * 2) (looked rs (drop i (rows input))) ≡ rows area =
+      rw (left-none (rows input) i (rw length-rows h))
+      in
+      sym l ∙ s .same
+
+length-looked : (rs l : List Row) → length (looked rs l) ≡ length l * 2
+unfolding looked
+length-looked rs [] = refl
+length-looked rs (x ∷ l) = let e = length-looked rs l in omega arith
+
+-- an area twice as long is answered whole
+pub whole : (rs : List Row) (input area : List ℕ) → length area / 64 ≡ length input / 64 * 2
+    → sets (rows area) 0 (looked rs (rows input)) ≡ looked rs (rows input)
+whole rs input area e =
+    let vs = looked rs (rows input) in
+    let n : length vs ≡ length (rows area) = length-looked rs (rows input) ∙ rw
+    (length-rows input, length-rows area, e) in
+    let z : drop (0 + length vs) (rows area) ≡ [] = drop-of-length-le (rows area) {i = 0 + length vs} (omega arith) in
+    sets-eq vs (rows area) 0 (omega arith) ∙ rw z (append-nil vs)
+
+pub ruleset fills = (fill-start, fill-more, fill-all)
+
+-- ---- the whole lookup
+-- the bytes of the answer, and the area as it was where a trade is unknown
+unfoldable pub lookedUp : List ℕ → List ℕ → List ℕ → List ℕ
+lookedUp b input area = cond (allKnown (rows b) (rows input)) (bytes (looked (rows b) (rows input))) area
+
+module _ (b input area : List ℕ) where
+  pub found-all : {x : Bool} {a : List ℕ} → x ≡ allKnown (rows b) (rows input) → x ≡ true
+      → wholeRecords 40 (length a) ≡ true → Bytes a → rows a ≡ looked (rows b) (rows input)
+      → (Done ≡ lookup (rows b) (rows input) .status) × (a ≡ lookedUp b input area)
+  unfolding lookup lookedUp
+  found-all {a = a} h e w y q =
+      let k = sym h ∙ e in
+      (rw k, rw k (sym (bytes-rows 40 a w y) ∙ ap bytes q))
+
+  pub found-not-all : {x : Bool} → x ≡ allKnown (rows b) (rows input) → x ≡ false
+      → (LookupNoTrade ≡ lookup (rows b) (rows input) .status) × (area ≡ lookedUp b input area)
+  unfolding lookup lookedUp
+  found-not-all h e = let k = sym h ∙ e in (rw k, rw k)
+
+-- an area of two records for each of the input
+pub twice : (n m : ℕ) → wholeRecords 20 n ≡ true → m ≡ n * 2 → (m / 64 ≡ n / 64 * 2) × (wholeRecords 40 m ≡ true)
+unfolding wholeRecords
+twice n m w e =
+    let two = and-left (leb 64 n && eqb (n % 64) 0) (leb n (20 * 64)) w in
+    let low = leb-true 64 n (and-left (leb 64 n) (eqb (n % 64) 0) two) in
+    let even = eqb-true (n % 64) 0 (and-right (leb 64 n) (eqb (n % 64) 0) two) in
+    let high = leb-true n (20 * 64) (and-right (leb 64 n && eqb (n % 64) 0) (leb n (20 * 64)) w) in (
+      omega arith,
+      and-both _ _ (and-both _ _ (le-leb 64 m (omega arith)) (eq-eqb (m % 64) 0 (omega arith)))
+          (le-leb m (40 * 64) (omega arith)),
+    )
