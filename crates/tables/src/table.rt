@@ -1,4 +1,4 @@
-// The tables of a book, and the first row that passes a test.
+// The tables of a book: how they are built, and the row of a key by them.
 ghost use mathlib.Core.Path.{_≡_};
 ghost use mathlib.Core.Bool.{true};
 ghost use Prim.Native.Nat.{_+_, _/_, _<_, _≤_};
