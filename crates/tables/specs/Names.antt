@@ -31,7 +31,8 @@ abbrev pub partyKinds : List ℕ
 partyKinds = kindBroker ∷ kindCustomer ∷ kindTaxRate ∷ kindAccount ∷ []
 
 -- what holds at each of four kinds holds at one that is among them
-pub of-four : (P : ℕ → Type 0) (k a b c d : ℕ) → P a → P b → P c → P d → among k (a ∷ b ∷ c ∷ d ∷ []) ≡ true → P k
+pub of-four : (P : ℕ → Type 0) (k a b c d : ℕ) → P a → P b → P c → P d
+    → among k (a ∷ b ∷ c ∷ d ∷ []) ≡ true → P k
 of-four P k a b c d pa pb pc pd e =
     ⊎-elim
     (λ abc. ⊎-elim
