@@ -67,6 +67,9 @@ impl Ranges {
 
     pub const SHARES_MOST: u32 = 999_999;
 
+    // A rate of 100 percent, and the most that a customer's rates may sum to.
+    pub const RATE_MOST: u32 = 100_000;
+
     pub const SHARES: R32 = R32(1, Ranges::SHARES_MOST);
     // Seconds from 2000-01-01.
     pub const TIME: R32 = R32(0, 4_000_000_000);

@@ -110,7 +110,7 @@ impl TaxRate {
     pub const LIMITS: Limits = Limits {
         kind: R8(TaxRate::KIND, TaxRate::KIND),
         party: Ranges::NUMBER,
-        n1: R32(0, 100_000),
+        n1: R32(0, Ranges::RATE_MOST),
         ..Limits::NONE
     };
 

@@ -13,6 +13,7 @@ use Rattle.laws.specs.Tests.{and-both, and-left, and-right}
 use Rattle.laws.specs.Walk.{left-next, left-none}
 use Rattle.record.specs.declared.row.Row.{Row}
 use Rattle.record.specs.Bytes.{Bytes}
+use Rattle.model.specs.Call.{mostInputs}
 use Rattle.model.specs.Lookup.{looked, lookup}
 use Rattle.model.specs.Names.{aSettlement, aTrade}
 use Rattle.model.specs.Rows.{bytes, found, nothing, rows, there, wholeRecords}
@@ -87,12 +88,12 @@ lookedUp b input area = cond (allKnown (rows b) (rows input)) (bytes (looked (ro
 
 module _ (b input area : List ℕ) where
   pub found-all : {x : Bool} {a : List ℕ} → x ≡ allKnown (rows b) (rows input) → x ≡ true
-      → wholeRecords 40 (length a) ≡ true → Bytes a → rows a ≡ looked (rows b) (rows input)
+      → wholeRecords (mostInputs * 2) (length a) ≡ true → Bytes a → rows a ≡ looked (rows b) (rows input)
       → (Done ≡ lookup (rows b) (rows input) .status) × (a ≡ lookedUp b input area)
   unfolding lookup lookedUp
   found-all {a = a} h e w y q =
       let k = sym h ∙ e in
-      (rw k, rw k (sym (bytes-rows 40 a w y) ∙ ap bytes q))
+      (rw k, rw k (sym (bytes-rows (mostInputs * 2) a w y) ∙ ap bytes q))
 
   pub found-not-all : {x : Bool} → x ≡ allKnown (rows b) (rows input) → x ≡ false
       → (LookupNoTrade ≡ lookup (rows b) (rows input) .status) × (area ≡ lookedUp b input area)
@@ -100,14 +101,14 @@ module _ (b input area : List ℕ) where
   found-not-all h e = let k = sym h ∙ e in (rw k, rw k)
 
 -- an area of two records for each of the input
-pub twice : (n m : ℕ) → wholeRecords 20 n ≡ true → m ≡ n * 2 → (m / 64 ≡ n / 64 * 2) × (wholeRecords 40 m ≡ true)
+pub twice : (n m : ℕ) → wholeRecords mostInputs n ≡ true → m ≡ n * 2 → (m / 64 ≡ n / 64 * 2) × (wholeRecords (mostInputs * 2) m ≡ true)
 unfolding wholeRecords
 twice n m w e =
-    let two = and-left (leb 64 n && eqb (n % 64) 0) (leb n (20 * 64)) w in
+    let two = and-left (leb 64 n && eqb (n % 64) 0) (leb n (mostInputs * 64)) w in
     let low = leb-true 64 n (and-left (leb 64 n) (eqb (n % 64) 0) two) in
     let even = eqb-true (n % 64) 0 (and-right (leb 64 n) (eqb (n % 64) 0) two) in
-    let high = leb-true n (20 * 64) (and-right (leb 64 n && eqb (n % 64) 0) (leb n (20 * 64)) w) in (
+    let high = leb-true n (mostInputs * 64) (and-right (leb 64 n && eqb (n % 64) 0) (leb n (mostInputs * 64)) w) in (
       omega arith,
       and-both _ _ (and-both _ _ (le-leb 64 m (omega arith)) (eq-eqb (m % 64) 0 (omega arith)))
-          (le-leb m (40 * 64) (omega arith)),
+          (le-leb m (mostInputs * 2 * 64) (omega arith)),
     )

@@ -3,6 +3,7 @@ ghost use mathlib.Core.Path.{_≡_};
 ghost use mathlib.Core.Bool.{true};
 ghost use Prim.Native.Nat.{_*_, _+_, _/_, _<_};
 ghost use lib.ListN.{length};
+ghost use Rattle.model.specs.Call.{mostInputs};
 ghost use Rattle.model.specs.Lookup.{looked, lookup};
 ghost use Rattle.model.specs.Names.{aTrade};
 ghost use Rattle.model.specs.Rows.{rows, there, wholeRecords};
@@ -27,7 +28,7 @@ fn known(book: &[u8], keys: &[u16; Slots::ALL], asked: Row) -> bool
 }
 
 // Every record names a trade that is there.
-pub fn all_known(book: &[u8], keys: &[u16; Slots::ALL], input: &[u8]) -> bool
+fn all_known(book: &[u8], keys: &[u16; Slots::ALL], input: &[u8]) -> bool
     requires { ⌜ Indexed keyBucket (now book) (now keys) 0 ⌝ }
     ensures { λ r. ⌜ r ≡ allKnown (rows (now (book .entry))) (rows (now (input .entry))) ⌝ }
 {
@@ -60,7 +61,7 @@ fn answer_one(book: &[u8], keys: &[u16; Slots::ALL], asked: Row, answer: &mut [u
 }
 
 // The trade row and the settlement row of each record, in turn.
-pub fn answer_all(book: &[u8], keys: &[u16; Slots::ALL], input: &[u8], answer: &mut [u8])
+fn answer_all(book: &[u8], keys: &[u16; Slots::ALL], input: &[u8], answer: &mut [u8])
     requires { ⌜ Indexed keyBucket (now book) (now keys) 0 ⌝ }
     requires { ⌜ length (now answer) / 64 ≡ length (now input) / 64 * 2 ⌝ }
     ensures { λ _. ⌜ rows (now (answer .exit)) ≡ looked (rows (now (book .entry))) (rows (now (input .entry))) ⌝ }
@@ -77,7 +78,7 @@ pub fn answer_all(book: &[u8], keys: &[u16; Slots::ALL], input: &[u8], answer: &
 // area is as it was.
 pub fn lookup(book: &[u8], keys: &[u16; Slots::ALL], input: &[u8], answer: &mut [u8]) -> Status
     requires { ⌜ Indexed keyBucket (now book) (now keys) 0 ⌝ }
-    requires { ⌜ (wholeRecords 20 (length (now input)) ≡ true) × (length (now answer) ≡ length (now input) * 2) ⌝ }
+    requires { ⌜ (wholeRecords mostInputs (length (now input)) ≡ true) × (length (now answer) ≡ length (now input) * 2) ⌝ }
     ensures { λ r. ⌜ r ≡ lookup (rows (now (book .entry))) (rows (now (input .entry))) .status ⌝ }
     ensures { λ _. ⌜ now (answer .exit) ≡ lookedUp (now (book .entry)) (now (input .entry)) (now (answer .entry)) ⌝ }
 {

@@ -6,7 +6,7 @@ use record::row::Grid;
 use record::row::Row;
 
 // The row of a free record.
-pub fn nothing() -> Row
+fn nothing() -> Row
     ensures { λ r. ⌜ r ≡ nothing ⌝ }
 {
     Row {

@@ -8,7 +8,7 @@ use lib.Dec.{eqb, leb}
 use lib.ListN.{length}
 use borrow.Author.Tests.{leb-true}
 use Rattle.laws.specs.Tests.{and-right}
-use Rattle.model.specs.Rows.{rows, wholeRecords}
+use Rattle.model.specs.Rows.{mostRecords, rows, wholeRecords}
 use Rattle.model.specs.Sound.{sound}
 use Rattle.model.specs.Tally.{bookStatus}
 use Rattle.model.specs.declared.Status.the-variants.{BadBook, Done, Unsound}
@@ -30,7 +30,7 @@ module _ (most : ℕ) (b : List ℕ) where
   unsound-book h e k f = rw (rule-kept h e, ← k, f)
 
 -- no more records than a table has places for
-pub few-records : (most n : ℕ) {x : Bool} → most ≤ 4096 → x ≡ wholeRecords most n → not x ≡ false → n / 64 ≤ 4096
+pub few-records : (most n : ℕ) {x : Bool} → most ≤ mostRecords → x ≡ wholeRecords most n → not x ≡ false → n / 64 ≤ mostRecords
 unfolding wholeRecords
 few-records most n m h e =
     let l = leb-true n (most * 64) (and-right (leb 64 n && eqb (n % 64) 0) (leb n (most * 64)) (rule-kept h e)) in

@@ -7,6 +7,7 @@ ghost use Rattle.model.specs.Sound.{bandApart, ratesFit, s1};
 ghost use Rattle.sound.specs.OneSide.{lotKept, summaryKept};
 ghost use Rattle.tables.specs.Bucket.{keyBucket, lotBucket};
 ghost use Rattle.tables.specs.Table.{Indexed};
+use kinds::limits::Ranges;
 use record::codes::Kind;
 use record::codes::TradeStatus;
 use record::row::Row;
@@ -29,7 +30,7 @@ pub fn rates_fit(book: &[u8], keys: &[u16; Slots::ALL], r: Row) -> bool
     requires { ⌜ Indexed keyBucket (now book) (now keys) 0 ⌝ }
     ensures { λ b. ⌜ b ≡ ratesFit (rows (now (book .entry))) r ⌝ }
 {
-    rates(book, keys, r.party) <= 100_000
+    rates(book, keys, r.party) <= Ranges::RATE_MOST as u64
 }
 
 pub fn held(book: &[u8], keys: &[u16; Slots::ALL], l: Row) -> bool

@@ -5,7 +5,7 @@ ghost use Prim.Native.Nat.{_/_, _≤_};
 ghost use lib.ListN.{length};
 ghost use Rattle.laws.specs.Search.{every};
 ghost use Rattle.record.specs.Codes.{kindTrade};
-ghost use Rattle.model.specs.Rows.{rows, wholeRecords};
+ghost use Rattle.model.specs.Rows.{mostRecords, rows, wholeRecords};
 ghost use Rattle.model.specs.Sound.{s1, s2, sound};
 ghost use Rattle.model.specs.Tally.{bookStatus};
 ghost use Rattle.tables.specs.Bucket.{keyBucket, lotBucket};
@@ -105,8 +105,8 @@ fn all_right(book: &[u8], keys: &[u16; Slots::ALL], lots: &[u16; Slots::ALL]) ->
 }
 
 // The book is sound.
-pub fn sound(book: &[u8]) -> bool
-    requires { ⌜ length (now book) / 64 ≤ 4096 ⌝ }
+fn sound(book: &[u8]) -> bool
+    requires { ⌜ length (now book) / 64 ≤ mostRecords ⌝ }
     ensures { λ r. ⌜ r ≡ sound (rows (now (book .entry))) ⌝ }
 {
     if !all_fit(book) {
@@ -123,7 +123,7 @@ pub fn sound(book: &[u8]) -> bool
 }
 
 fn whole(n: usize, most: usize) -> bool
-    requires { ⌜ most ≤ 4096 ⌝ }
+    requires { ⌜ most ≤ mostRecords ⌝ }
     ensures { λ r. ⌜ r ≡ wholeRecords most n ⌝ }
 {
     (Grid::SIZE <= n) & (n % Grid::SIZE == 0) & (n <= most * Grid::SIZE)
@@ -131,7 +131,7 @@ fn whole(n: usize, most: usize) -> bool
 
 // The status of any bytes as a book of at most so many records.
 pub fn status(book: &[u8], most: usize) -> Status
-    requires { ⌜ most ≤ 4096 ⌝ }
+    requires { ⌜ most ≤ mostRecords ⌝ }
     ensures { λ r. ⌜ r ≡ bookStatus most (now (book .entry)) ⌝ }
 {
     if !whole(book.len(), most) {

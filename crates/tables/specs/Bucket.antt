@@ -11,6 +11,10 @@ use Rattle.record.specs.declared.key.Key.{Key}
 use Rattle.record.specs.declared.row.Row.{Row}
 use Rattle.model.specs.Rows.{is}
 
+-- the number of buckets; the last is that of the rows that a table does not list
+abbrev pub headCount : ℕ
+headCount = 8_193
+
 unfoldable pub bucketOf : ℕ → ℕ → ℕ → ℕ → ℕ → ℕ → ℕ
 bucketOf kind form flags party id symbol =
     cond (eqb kind kindFree) 8_192

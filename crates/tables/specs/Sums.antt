@@ -8,11 +8,10 @@ use native.Mathlib.Omega.{arith}
 use lib.Dec.{eqb, leb, ltb}
 use lib.IntN.{ℤ, pos, negsuc, natAbs}
 use lib.ListN.{length}
-use lib.Signed.{ltZ}
 use mir.Facts.{toZ-pos}
 use mir.Syntax.{w64}
 use mir.Val.{toZ}
-use borrow.Author.Tests.{eqb-true, leb-true, leb-false, le-ltb}
+use borrow.Author.Tests.{eqb-true}
 use Rattle.laws.specs.Search.{bit, count, total}
 use Rattle.laws.specs.Tests.{and-left, and-right}
 use Rattle.record.specs.Codes.{kindBand, kindCustomerRate, kindLot, kindTradeHistory}
@@ -87,15 +86,6 @@ pub rate-no : (rs : List Row) (customer : ℕ) (r : Row) → ofParty kindCustome
 rate-no rs customer r e = rw e
 
 -- ---- shares
-pub short-is : (x : ℕ) → leb 9223372036854775808 x ≡ ltZ (toZ w64 x) (pos 0)
-short-is x = go (leb 9223372036854775808 x) refl
-  where
-    go : (t : Bool) → leb 9223372036854775808 x ≡ t → leb 9223372036854775808 x ≡ ltZ (toZ w64 x) (pos 0)
-    go true e = rw (e, toZ-high w64 x (leb-true 9223372036854775808 x e))
-    go false e =
-        let h = leb-false 9223372036854775808 x e in
-        rw (e, toZ-pos w64 {n = x} (omega arith)) (sym (le-ltb x 0 (omega arith)))
-
 -- a signed number's distance from zero where it is on this side of it, and 0 on the other
 abbrev pub side : Bool → ℕ → ℕ
 side true x = dn (toZ w64 x)

@@ -20,16 +20,13 @@ use Rattle.record.specs.declared.row.Row.{Row}
 use Rattle.model.specs.Rows.{found, hasKey, mostRecords, nothing, rows, there}
 use Rattle.shelf.specs.Loop.{Sought, seek-found, seek-more, seek-none}
 use Rattle.shelf.specs.Rows.{length-rows, rowAt}
-use Rattle.tables.specs.Bucket.{bucketOfKey, keyBucket}
+use Rattle.tables.specs.Bucket.{bucketOfKey, headCount, keyBucket}
 use Rattle.laws.specs.Place.{some-place, the-place}
 use Rattle.tables.specs.Keyed.{Keyed, holder-keyed, id-keyed, party-keyed, symbol-keyed}
 
 -- the heads of the buckets, and after them a link for each place
-abbrev pub headCount : ℕ
-headCount = 8_193
-
 abbrev pub tableSize : ℕ
-tableSize = 12_289
+tableSize = headCount + mostRecords
 
 -- the rows of a book from i on are in the table
 pub record Indexed (g : Row → ℕ) (b table : List ℕ) (i : ℕ) : Type 0 where

@@ -2,7 +2,7 @@
 // in; and, of a lot, by its account and symbol. What a table does not list has a bucket of its own.
 ghost use mathlib.Core.Path.{_≡_};
 ghost use Prim.Native.Nat.{_<_};
-ghost use Rattle.tables.specs.Bucket.{bucketOf, keyBucket, lotBucket};
+ghost use Rattle.tables.specs.Bucket.{bucketOf, headCount, keyBucket, lotBucket};
 use record::codes::Kind;
 use record::key::Key;
 use record::row::Row;
@@ -20,7 +20,7 @@ fn wide32(x: u32) -> u64
 }
 
 pub fn bucket(kind: u8, form: u8, flags: u8, party: u32, id: u64, symbol: u64) -> usize
-    ensures { λ r. ⌜ (r ≡ bucketOf kind form flags party id symbol) × (r < 8193) ⌝ }
+    ensures { λ r. ⌜ (r ≡ bucketOf kind form flags party id symbol) × (r < headCount) ⌝ }
 {
     if kind == Kind::FREE {
         return 8192;
@@ -35,14 +35,14 @@ pub fn bucket(kind: u8, form: u8, flags: u8, party: u32, id: u64, symbol: u64) -
 }
 
 pub fn key_bucket(r: Row) -> usize
-    ensures { λ b. ⌜ (b ≡ keyBucket r) × (b < 8193) ⌝ }
+    ensures { λ b. ⌜ (b ≡ keyBucket r) × (b < headCount) ⌝ }
 {
     let k = Key::of(r);
     bucket(k.kind, k.form, k.flags, k.party, k.id, k.symbol)
 }
 
 pub fn lot_bucket(r: Row) -> usize
-    ensures { λ b. ⌜ (b ≡ lotBucket r) × (b < 8193) ⌝ }
+    ensures { λ b. ⌜ (b ≡ lotBucket r) × (b < headCount) ⌝ }
 {
     if r.kind == Kind::LOT {
         return bucket(Kind::LOT, 0, 0, r.party, 0, r.symbol);

@@ -3,6 +3,7 @@ ghost use mathlib.Core.Path.{_≡_};
 ghost use mathlib.Core.Bool.{false, true};
 ghost use Prim.Native.Nat.{_≤_};
 ghost use Rattle.laws.specs.Search.{bit, count};
+ghost use Rattle.rules.specs.Ranges.{sharesMost};
 ghost use Rattle.rules.specs.Rules.{fits};
 ghost use Rattle.model.specs.Names.{aHistory};
 ghost use Rattle.model.specs.Rows.{hasKey, rows};
@@ -114,8 +115,8 @@ pub struct Held {
 fn part(account: u32, symbol: u64, row: Row) -> Held
     requires { ⌜ fits row ≡ true ⌝ }
     ensures { λ r. ⌜ (r .lots ≡ bit (lotOf account symbol row)) × (r .lots ≤ 1) ⌝ }
-    ensures { λ r. ⌜ (r .long ≡ sharesPart false account symbol row) × (r .long ≤ 999999) ⌝ }
-    ensures { λ r. ⌜ (r .owed ≡ sharesPart true account symbol row) × (r .owed ≤ 999999) ⌝ }
+    ensures { λ r. ⌜ (r .long ≡ sharesPart false account symbol row) × (r .long ≤ sharesMost) ⌝ }
+    ensures { λ r. ⌜ (r .owed ≡ sharesPart true account symbol row) × (r .owed ≤ sharesMost) ⌝ }
 {
     if held(account, symbol, row) {
         return Held {

@@ -6,7 +6,7 @@ ghost use lib.ListN.{drop, length};
 ghost use Rattle.laws.specs.Search.{place, seek};
 ghost use Rattle.record.specs.Key.{among, keyOf};
 ghost use Rattle.model.specs.Names.{aSecurity, aSummary, byId, byParty};
-ghost use Rattle.model.specs.Rows.{found, hasKey, rows, there};
+ghost use Rattle.model.specs.Rows.{found, hasKey, mostRecords, rows, there};
 ghost use Rattle.shelf.specs.Rows.{rowAt};
 ghost use Rattle.tables.specs.Bucket.{keyBucket, lotBucket};
 ghost use Rattle.tables.specs.Names.{idKinds, partyKinds};
@@ -50,7 +50,7 @@ pub fn narrow(x: usize) -> u16
 
 // Puts the places of a book into its two tables, the last first.
 pub fn build(book: &[u8], keys: &mut [u16; Slots::ALL], lots: &mut [u16; Slots::ALL])
-    requires { ⌜ length (now book) / 64 ≤ 4096 ⌝ }
+    requires { ⌜ length (now book) / 64 ≤ mostRecords ⌝ }
     requires { ⌜ Blank (now book) (now keys) × Blank (now book) (now lots) ⌝ }
     ensures { λ _. ⌜ Indexed keyBucket (now (book .entry)) (now (keys .exit)) 0 ⌝ }
     ensures { λ _. ⌜ Indexed lotBucket (now (book .entry)) (now (lots .exit)) 0 ⌝ }

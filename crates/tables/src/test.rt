@@ -4,17 +4,10 @@ ghost use mathlib.Core.Bool.{true};
 ghost use Rattle.record.specs.Key.{among};
 ghost use Rattle.model.specs.Names.{aSecurity, aSummary, byId, byParty};
 ghost use Rattle.model.specs.Rows.{hasKey};
-ghost use Rattle.model.specs.Sound.{lotOf, short};
+ghost use Rattle.model.specs.Sound.{lotOf};
 ghost use Rattle.tables.specs.Names.{idKinds, partyKinds};
 use record::codes::Kind;
 use record::row::Row;
-
-// The shares are sold short.
-pub fn short(r: Row) -> bool
-    ensures { λ b. ⌜ b ≡ short r ⌝ }
-{
-    9_223_372_036_854_775_808 <= r.m1
-}
 
 pub fn held(account: u32, symbol: u64, r: Row) -> bool
     ensures { λ b. ⌜ b ≡ lotOf account symbol r ⌝ }
