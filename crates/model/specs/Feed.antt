@@ -28,10 +28,10 @@ reached e r =
 abbrev pub waits : List Row → Row → Bool
 waits rs r = is kindRequest r && eqb (found (aTrade (r .id)) rs .status) pending
 
-abbrev triggered : List Row → Row → Row → Bool
+abbrev pub triggered : List Row → Row → Row → Bool
 triggered rs e r = waits rs r && eqb (r .symbol) (e .symbol) && reached e r
 
-abbrev lower : Row → Row → Bool
+abbrev pub lower : Row → Row → Bool
 lower a b = leb (a .id) (b .id)
 
 -- the requests that an entry submits, by rising trade number
@@ -39,13 +39,13 @@ unfoldable pub submits : List Row → Row → List Row
 submits rs e = sort lower (keep (triggered rs e) rs)
 
 -- a trade is submitted: its history row takes the lowest free place
-abbrev submit : Row → List Row → Row → List Row
+abbrev pub submit : Row → List Row → Row → List Row
 submit e rs r =
     let t = found (aTrade (r .id)) rs in
     let h = new (kind ≔ kindTradeHistory ∷ status ≔ submitted ∷ id ≔ r .id ∷ when ≔ e .time ∷ []) in
     put sameRow t (changed t (status ≔ submitted ∷ when ≔ e .time ∷ [])) (put sameRow nothing h rs)
 
-abbrev traded : Row → Row → Row
+abbrev pub traded : Row → Row → Row
 traded e s = changed s (n1 ≔ e .n1 ∷ m1 ≔ (s .m1 + e .n2) ∷ when ≔ e .time ∷ [])
 
 -- the rows, and how many trades were submitted
@@ -65,7 +65,7 @@ unfoldable pub swept : List Row → List Row
 swept rs = map (λ (r : Row). cond (is kindRequest r && not (waits rs r)) nothing r) rs
 
 -- every volume stays in its range
-abbrev volumesFit : List Row → List Row → Bool
+abbrev pub volumesFit : List Row → List Row → Bool
 volumesFit rs es = every (λ (e : Row). leb (found (aSecurity (e .symbol)) rs .m1) (volume .high)) es
 
 -- a feed on a sound book's rows
