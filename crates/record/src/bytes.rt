@@ -117,3 +117,14 @@ pub fn bits64(x: i64) -> u64
         x as u64
     }
 }
+
+// The 32 bits of a signed number.
+pub fn bits32(x: i32) -> u32
+    ensures { λ r. ⌜ r ≡ ofZ w32 x ⌝ }
+{
+    if x < 0 {
+        4294967295 - ((-1 - x) as u32)
+    } else {
+        x as u32
+    }
+}

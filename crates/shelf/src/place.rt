@@ -6,7 +6,7 @@ use record::row::Grid;
 use record::row::Row;
 
 // The row of a free record.
-fn nothing() -> Row
+pub fn nothing() -> Row
     ensures { λ r. ⌜ r ≡ nothing ⌝ }
 {
     Row {

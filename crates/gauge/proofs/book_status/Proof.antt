@@ -1,7 +1,7 @@
 -- The number of the status that the book has; a signed result is read back from its bits. Assumes nothing.
 use borrow.Author.Needs.{needs}
 use mathlib.Core.Path.{_∙_, ap}
-use Rattle.gauge.specs.Back.{number-back}
+use Rattle.reply.specs.Back.{number-back}
 use Rattle.model.specs.Status.{number}
 use Rattle.gauge.proofs.book_status.Statement.{statement}
 use Rattle.gauge.proofs.book_status.Tie as tie

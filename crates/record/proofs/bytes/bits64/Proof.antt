@@ -4,6 +4,7 @@ use lib.IntN.{pos}
 use lib.Signed.{ltZ}
 use mathlib.Core.Bool.{true}
 use mathlib.Core.Path.{_≡_, sym}
+use mir.Syntax.{w64}
 use mir.Facts.{toZ-ofZ, fits-natAbs}
 use native.Mathlib.Omega.{arith}
 use Rattle.record.proofs.bytes.bits64.Statement.{statement}
@@ -18,10 +19,10 @@ sub-result c =
     (record { sfits = c .before .fits .x .sfits })
 
 cast-result : tie.Need-cast-result
-cast-result c = rw (turned (c .before .args .x) (c .before .fits .x) (below c)) (tt, record { fits = omega arith })
+cast-result c = rw (turned w64 (c .before .args .x) (c .before .fits .x) (below c)) (tt, record { fits = omega arith })
 
 sub-result-2 : tie.Need-sub-result-2
-sub-result-2 c = rw (turned (c .before .args .x) (c .before .fits .x) (below c)) (omega arith)
+sub-result-2 c = rw (turned w64 (c .before .args .x) (c .before .fits .x) (below c)) (omega arith)
 
 cast-result-2 : tie.Need-cast-result-2
 cast-result-2 c =
@@ -30,13 +31,13 @@ cast-result-2 c =
 
 returns : tie.Need-returns
 returns c =
-    rw (turned (c .before .args .x) (c .before .fits .x) (below c))
-    (sym (ofZ-neg (c .before .args .x) (below c)))
+    rw (turned w64 (c .before .args .x) (c .before .fits .x) (below c), ofZ-neg w64 (c .before .args .x) (below c))
+    (omega arith)
 
 returns-2 : tie.Need-returns-2
 returns-2 c =
     let k = toZ-ofZ (c .before .fits .x) in
-    rw k (sym (ofZ-pos (c .before .args .x) (simp k at (c .if1 .left))))
+    rw k (sym (ofZ-pos w64 (c .before .args .x) (simp k at (c .if1 .left))))
 
 pub bits64-spec : {M : Type 1} → statement M
 bits64-spec = tie.close (tie.spec sub-result cast-result sub-result-2 cast-result-2 returns returns-2)

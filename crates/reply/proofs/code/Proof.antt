@@ -2,8 +2,8 @@
 use borrow.Author.Needs.{needs}
 use mathlib.Core.Path.{sym, ap}
 use Rattle.model.specs.Status.{number}
-use Rattle.gauge.proofs.code.Statement.{statement}
-use Rattle.gauge.proofs.code.Tie as tie
+use Rattle.reply.proofs.code.Statement.{statement}
+use Rattle.reply.proofs.code.Tie as tie
 
 pub code-spec : {M : Type 1} → statement M
 code-spec =

@@ -1,0 +1,16 @@
+-- One field is set in the row of a free record; a signed number is read back from its bits. Assumes nothing.
+use borrow.Author.Needs.{needs}
+use Rattle.reply.specs.Back.{number-back}
+use Rattle.reply.specs.Refusal.{refusal}
+use Rattle.reply.proofs.refusal.Statement.{statement}
+use Rattle.reply.proofs.refusal.Tie as tie
+
+returns : tie.Need-returns
+unfolding refusal
+returns c =
+    let number = c .before .code in
+    rw
+    (c .before .before .nothing .ensures, c .bits32 .ensures, number-back (number .result) (c .before .before .before .args .s) (number .ensures))
+
+pub refusal-spec : {M : Type 1} → statement M
+refusal-spec = tie.close (tie.spec (λ c κs. search needs) (λ c κs. search needs) (λ c κs. search needs) returns)

@@ -1,0 +1,86 @@
+// How a call ends: the number of its status, and the answer of a refusal.
+ghost use mathlib.Core.Path.{_≡_};
+ghost use mathlib.Core.Bool.{Bool};
+ghost use Prim.Native.Nat.{_≤_};
+ghost use lib.ListN.{length, replicate};
+ghost use Rattle.model.specs.Call.{either, isDone, refusalArea};
+ghost use Rattle.model.specs.Rows.{recordSize};
+ghost use Rattle.model.specs.Status.{number};
+ghost use Rattle.reply.specs.Refusal.{refusal};
+use model::Status;
+use record::bytes::bits32;
+use record::row::Row;
+use shelf::place::nothing;
+use shelf::put::put;
+
+// The number of a status.
+pub fn code(s: Status) -> i32
+    ensures { λ r. ⌜ r ≡ number s ⌝ }
+{
+    match s {
+        Status::Done => 0,
+        Status::BadLength => -100,
+        Status::BadBook => -101,
+        Status::Unsound => -102,
+        Status::BadInput => -103,
+        Status::OverLimit => -104,
+        Status::NoRoom => -105,
+        Status::OrderNoAccount => -711,
+        Status::OrderNoSecurity => -712,
+        Status::OrderNoTax => -731,
+        Status::OrderNoRate => -732,
+        Status::OrderNoCharge => -733,
+        Status::ResultNoTrade => -811,
+        Status::ResultNotSubmitted => -812,
+        Status::ResultNoTax => -831,
+        Status::ResultNoRate => -841,
+        Status::FeedNoSecurity => -311,
+        Status::LookupNoTrade => -611,
+    }
+}
+
+// The row that has the status and nothing else.
+fn refusal(s: Status) -> Row
+    ensures { λ r. ⌜ r ≡ refusal s ⌝ }
+{
+    let mut row = nothing();
+    row.n5 = bits32(code(s));
+    row
+}
+
+fn clear(area: &mut [u8])
+    ensures { λ _. ⌜ now (area .exit) ≡ replicate (length (now (area .entry))) 0 ⌝ }
+{
+    let mut i = 0;
+    while i < area.len() {
+        area[i] = 0;
+        i += 1;
+    }
+}
+
+fn refuse(area: &mut [u8], s: Status)
+    requires { ⌜ recordSize ≤ length (now area) ⌝ }
+    ensures { λ _. ⌜ now (area .exit) ≡ refusalArea (length (now (area .entry))) s ⌝ }
+{
+    clear(area);
+    put(area, 0, refusal(s));
+}
+
+fn done(s: Status) -> bool
+    ensures { λ r. ⌜ r ≡ isDone s ⌝ }
+{
+    code(s) == 0
+}
+
+// The end of a call: a refusal writes its status and zeros over whatever the answer area holds.
+pub fn finish(area: &mut [u8], s: Status) -> i32
+    requires { ⌜ recordSize ≤ length (now area) ⌝ }
+    ensures { λ r. ⌜ r ≡ number s ⌝ }
+    ensures { λ _. ⌜ now (area .exit) ≡ either (isDone s) (now (area .entry)) (refusalArea (length (now (area .entry))) s) ⌝ }
+{
+    if done(s) {
+        return code(s);
+    }
+    refuse(area, s);
+    code(s)
+}
