@@ -1,17 +1,21 @@
 // The rules of the four kinds of input, decided on the record's own bytes: what breaks one is -103.
 ghost use mathlib.Core.Path.{_≡_};
 ghost use lib.ListN.{length};
+ghost use Rattle.laws.specs.Search.{every};
 ghost use Rattle.record.specs.Grid.{decode};
 ghost use Rattle.rules.specs.Rules.{feedInput, lookupInput, orderInput, resultInput};
+ghost use Rattle.model.specs.Rows.{rows};
 use kinds::inputs::FeedInput;
 use kinds::inputs::LookupInput;
 use kinds::inputs::OrderInput;
 use kinds::inputs::ResultInput;
 use record::codes::TradeType;
+use record::row::Grid;
 use record::row::Row;
 use rules::limited::alike;
 use rules::limited::in_limits;
 use rules::symbol::symbol_ok;
+use shelf::place::row_at;
 
 fn order_input(r: Row) -> bool
     ensures { λ b. ⌜ b ≡ orderInput r ⌝ }
@@ -65,4 +69,36 @@ pub fn is_lookup(part: &[u8]) -> bool
     ensures { λ b. ⌜ b ≡ lookupInput (decode (now (part .entry))) ⌝ }
 {
     lookup_input(Row::read(part))
+}
+
+// Every record of an input.
+pub fn all_feed(input: &[u8]) -> bool
+    ensures { λ b. ⌜ b ≡ every feedInput (rows (now (input .entry))) ⌝ }
+{
+    let n = input.len() / Grid::SIZE;
+    let mut i = 0;
+    while i < n {
+        if feed_input(row_at(input, i)) {
+            i += 1;
+        } else {
+            return false;
+        }
+    }
+    true
+}
+
+// Every record of an input.
+pub fn all_lookup(input: &[u8]) -> bool
+    ensures { λ b. ⌜ b ≡ every lookupInput (rows (now (input .entry))) ⌝ }
+{
+    let n = input.len() / Grid::SIZE;
+    let mut i = 0;
+    while i < n {
+        if lookup_input(row_at(input, i)) {
+            i += 1;
+        } else {
+            return false;
+        }
+    }
+    true
 }

@@ -1,6 +1,6 @@
 -- A loop that answers each record of an input with two rows, in their turn. Assumes nothing.
 use mathlib.Core.Path.{_≡_, refl, sym, ap, _∙_}
-use mathlib.Core.Bool.{Bool, true, false, cond, _&&_}
+use mathlib.Core.Bool.{Bool, true, false, _&&_}
 use mathlib.Core.List.{List, [], _∷_, append-nil}
 use Prim.Native.Nat.{ℕ, suc, _+_, _*_, _/_, _%_, _≤_, _<_}
 use native.Mathlib.Omega.{arith}
@@ -19,6 +19,7 @@ use Rattle.model.specs.Names.{aSettlement, aTrade}
 use Rattle.model.specs.Rows.{bytes, found, nothing, rows, there, wholeRecords}
 use Rattle.model.specs.RowsLaws.{bytes-rows}
 use Rattle.model.specs.declared.Status.the-variants.{Done, LookupNoTrade}
+use Rattle.reply.specs.Left.{answerLeft}
 use Rattle.shelf.specs.Rows.{length-rows, rowAt}
 
 -- every record names a trade that is there
@@ -82,22 +83,18 @@ whole rs input area e =
 pub ruleset fills = (fill-start, fill-more, fill-all)
 
 -- ---- the whole lookup
--- the bytes of the answer, and the area as it was where a trade is unknown
-unfoldable pub lookedUp : List ℕ → List ℕ → List ℕ → List ℕ
-lookedUp b input area = cond (allKnown (rows b) (rows input)) (bytes (looked (rows b) (rows input))) area
-
 module _ (b input area : List ℕ) where
   pub found-all : {x : Bool} {a : List ℕ} → x ≡ allKnown (rows b) (rows input) → x ≡ true
       → wholeRecords (mostInputs * 2) (length a) ≡ true → Bytes a → rows a ≡ looked (rows b) (rows input)
-      → (Done ≡ lookup (rows b) (rows input) .status) × (a ≡ lookedUp b input area)
-  unfolding lookup lookedUp
+      → (Done ≡ lookup (rows b) (rows input) .status) × (a ≡ answerLeft (lookup (rows b) (rows input)) area)
+  unfolding lookup answerLeft
   found-all {a = a} h e w y q =
       let k = sym h ∙ e in
       (rw k, rw k (sym (bytes-rows (mostInputs * 2) a w y) ∙ ap bytes q))
 
   pub found-not-all : {x : Bool} → x ≡ allKnown (rows b) (rows input) → x ≡ false
-      → (LookupNoTrade ≡ lookup (rows b) (rows input) .status) × (area ≡ lookedUp b input area)
-  unfolding lookup lookedUp
+      → (LookupNoTrade ≡ lookup (rows b) (rows input) .status) × (area ≡ answerLeft (lookup (rows b) (rows input)) area)
+  unfolding lookup answerLeft
   found-not-all h e = let k = sym h ∙ e in (rw k, rw k)
 
 -- an area of two records for each of the input

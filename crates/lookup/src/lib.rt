@@ -7,9 +7,10 @@ ghost use Rattle.model.specs.Call.{mostInputs};
 ghost use Rattle.model.specs.Lookup.{looked, lookup};
 ghost use Rattle.model.specs.Names.{aTrade};
 ghost use Rattle.model.specs.Rows.{rows, there, wholeRecords};
+ghost use Rattle.reply.specs.Left.{answerLeft};
 ghost use Rattle.tables.specs.Bucket.{keyBucket};
 ghost use Rattle.tables.specs.Table.{Indexed};
-ghost use Rattle.lookup.specs.Fill.{Answers, allKnown, lookedUp};
+ghost use Rattle.lookup.specs.Fill.{Answers, allKnown};
 use model::Status;
 use record::codes::Kind;
 use record::row::Grid;
@@ -80,7 +81,9 @@ pub fn lookup(book: &[u8], keys: &[u16; Slots::ALL], input: &[u8], answer: &mut 
     requires { ⌜ Indexed keyBucket (now book) (now keys) 0 ⌝ }
     requires { ⌜ (wholeRecords mostInputs (length (now input)) ≡ true) × (length (now answer) ≡ length (now input) * 2) ⌝ }
     ensures { λ r. ⌜ r ≡ lookup (rows (now (book .entry))) (rows (now (input .entry))) .status ⌝ }
-    ensures { λ _. ⌜ now (answer .exit) ≡ lookedUp (now (book .entry)) (now (input .entry)) (now (answer .entry)) ⌝ }
+    ensures { λ _.
+        ⌜ now (answer .exit)
+        ≡ answerLeft (lookup (rows (now (book .entry))) (rows (now (input .entry)))) (now (answer .entry)) ⌝ }
 {
     if all_known(book, keys, input) {
         answer_all(book, keys, input, answer);

@@ -1,2 +1,3 @@
 pub mod Back
+pub mod Left
 pub mod Refusal
