@@ -4,13 +4,13 @@ ghost use Rattle.model.specs.Rows.{mostRecords};
 ghost use Rattle.model.specs.Status.{number};
 ghost use Rattle.model.specs.Tally.{bookStatus};
 use reply::code;
-
-const MOST_RECORDS: usize = 4_096;
+use sound::whole::Most;
+use sound::whole::status;
 
 // 0 where the book is sound, and the number of its refusal where it is not.
 #[no_mangle]
 pub extern "C" fn book_status(book: &[u8]) -> i32
     ensures { λ r. ⌜ r ≡ number (bookStatus mostRecords (now (book .entry))) ⌝ }
 {
-    code(sound::whole::status(book, MOST_RECORDS))
+    code(status(book, Most::RECORDS))
 }

@@ -66,7 +66,8 @@ fn refuse(area: &mut [u8], s: Status)
     put(area, 0, refusal(s));
 }
 
-fn done(s: Status) -> bool
+// The call was not refused.
+pub fn done(s: Status) -> bool
     ensures { λ r. ⌜ r ≡ isDone s ⌝ }
 {
     code(s) == 0

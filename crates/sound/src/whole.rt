@@ -33,6 +33,15 @@ use tables::table::Slots;
 use tables::table::build;
 use tables::table::narrow;
 
+// The most records of a book, and of an input.
+pub struct Most {}
+
+impl Most {
+    pub const RECORDS: usize = 4_096;
+
+    pub const INPUTS: usize = 20;
+}
+
 fn all_fit(book: &[u8]) -> bool
     ensures { λ r. ⌜ r ≡ s1 (rows (now (book .entry))) ⌝ }
 {
