@@ -1,8 +1,11 @@
 -- Searches, tests, counts and sums over a list: each rule of the book is one of these. Assumes nothing.
-use mathlib.Core.Path.{_≡_, refl, ap, _∙_}
+use mathlib.Core.Path.{_≡_, refl, sym, ap, _∙_}
 use mathlib.Core.Bool.{Bool, true, false, cond, _&&_}
 use mathlib.Core.List.{List, [], _∷_, List·Memᴰ, List·Memᴰ·head, List·Memᴰ·tail, List·Memᴰ·not-nil}
-use Prim.Native.Nat.{ℕ, _+_, max}
+use Prim.Native.Nat.{ℕ, suc, _+_, max}
+use native.Mathlib.Nat.{zero-add}
+use native.Mathlib.Numerals.{one-add}
+use lib.ListN.{length}
 use lib.IntN.{ℤ, pos, _+ℤ_}
 use Rattle.laws.specs.Tests.{Means, and-left, and-right, and-both}
 
@@ -58,6 +61,16 @@ module _ {A : Type 0} where
   unfoldable pub run : {S : Type 0} → (S → A → S) → S → List A → S
   run f s [] = s
   run f s (x ∷ l) = run f (f s x) l
+
+  pub length-keep : (p : A → Bool) (l : List A) → length (keep p l) ≡ count p l
+  unfolding keep count total
+  length-keep p [] = refl
+  length-keep p (x ∷ l) = go (p x) (length-keep p l)
+    where
+      go : (t : Bool) → length (keep p l) ≡ count p l
+          → length (cond t (x ∷ keep p l) (keep p l)) ≡ bit t + count p l
+      go true ih = ap suc ih ∙ sym (one-add (count p l))
+      go false ih = ih ∙ sym (zero-add (count p l))
 
   -- ---- what `every` means
   every-shows : (p : A → Bool) (l : List A) → every p l ≡ true → (x : A) → List·Memᴰ x l → p x ≡ true
