@@ -104,25 +104,33 @@ fn all_right(book: &[u8], keys: &[u16; Slots::ALL], lots: &[u16; Slots::ALL]) ->
     true
 }
 
-// The book is sound.
-fn sound(book: &[u8]) -> bool
-    requires { ⌜ length (now book) / 64 ≤ mostRecords ⌝ }
+// The book is sound, by its tables.
+pub fn sound_by(book: &[u8], keys: &[u16; Slots::ALL], lots: &[u16; Slots::ALL]) -> bool
+    requires { ⌜ Indexed keyBucket (now book) (now keys) 0 ⌝ }
+    requires { ⌜ Indexed lotBucket (now book) (now lots) 0 ⌝ }
     ensures { λ r. ⌜ r ≡ sound (rows (now (book .entry))) ⌝ }
 {
     if !all_fit(book) {
         return false;
     }
+    if !unique(book, keys) {
+        return false;
+    }
+    all_right(book, keys, lots)
+}
+
+fn sound(book: &[u8]) -> bool
+    requires { ⌜ length (now book) / 64 ≤ mostRecords ⌝ }
+    ensures { λ r. ⌜ r ≡ sound (rows (now (book .entry))) ⌝ }
+{
     let none = narrow(book.len() / Grid::SIZE);
     let mut keys = [none; Slots::ALL];
     let mut lots = [none; Slots::ALL];
     build(book, &mut keys, &mut lots);
-    if !unique(book, &keys) {
-        return false;
-    }
-    all_right(book, &keys, &lots)
+    sound_by(book, &keys, &lots)
 }
 
-fn whole(n: usize, most: usize) -> bool
+pub fn whole(n: usize, most: usize) -> bool
     requires { ⌜ most ≤ mostRecords ⌝ }
     ensures { λ r. ⌜ r ≡ wholeRecords most n ⌝ }
 {
