@@ -25,7 +25,7 @@ use Rattle.model.specs.declared.Status.the-variants.{BadBook, BadInput, BadLeng
 use Rattle.model.specs.Unposted.{lookup-keeps}
 use Rattle.reply.specs.Left.{answerLeft, bookLeft}
 use Rattle.sound.specs.ByRow.{rule-kept, rule-lost}
-use Rattle.tables.specs.Bucket.{keyBucket, lotBucket}
+use Rattle.tables.specs.Bucket.{keyBucket, steadyBucket}
 use Rattle.tables.specs.Table.{Blank, Indexed, blank-of, tableSize}
 
 -- the first of the shell's checks that fails
@@ -42,15 +42,15 @@ decided inputs decide b =
     (refused BadBook rs)
 
 -- the two tables of a book that a call may take for sound
-pub record Opened (b keys lots : List ℕ) : Type 0 where
+pub record Opened (b keys steady : List ℕ) : Type 0 where
   pub by-key : Indexed keyBucket b keys 0
-  pub by-holder : Indexed lotBucket b lots 0
+  pub steadily : Indexed steadyBucket b steady 0
   pub is-sound : sound (rows b) ≡ true
 
 -- tables that can be built
-pub record Empty (b keys lots : List ℕ) : Type 0 where
+pub record Empty (b keys steady : List ℕ) : Type 0 where
   pub by-key : Blank b keys
-  pub by-holder : Blank b lots
+  pub steadily : Blank b steady
 
 -- ---- the checks
 few-bytes : (most n : ℕ) → wholeRecords most n ≡ true → n ≤ most * 64
@@ -74,7 +74,7 @@ pub empty : (b : List ℕ) (e : ℕ) → (length b / 64 < 65536 → e ≡ length
 empty b e h w =
     let n = few mostRecords (length b) w in
     let q = h (omega arith) in
-    record { by-key = blank-of b e q; by-holder = blank-of b e q }
+    record { by-key = blank-of b e q; steadily = blank-of b e q }
 
 module _ (inputs : Bool) (b : List ℕ) {x : Bool} (h : x ≡ wholeRecords mostRecords (length b)) where
   pub bad-book : not x ≡ true → (k l : List ℕ) → (BadBook ≡ opening inputs b) × (isDone BadBook ≡ true → Opened b k l)
@@ -90,12 +90,12 @@ module _ (inputs : Bool) (b : List ℕ) {x : Bool} (h : x ≡ wholeRecords mostR
     unfolding opening
     bad-input f i = (rw (rule-kept h e, rule-kept g f, i), λ z. absurd (never z))
 
-    pub open-book : not y ≡ false → inputs ≡ true → Indexed keyBucket b k 0 → Indexed lotBucket b l 0
+    pub open-book : not y ≡ false → inputs ≡ true → Indexed keyBucket b k 0 → Indexed steadyBucket b l 0
         → (Done ≡ opening inputs b) × (isDone Done ≡ true → Opened b k l)
     unfolding opening
     open-book f i p q =
         let s = rule-kept g f in
-        (rw (rule-kept h e, s, i), λ z. record { by-key = p; by-holder = q; is-sound = s })
+        (rw (rule-kept h e, s, i), λ z. record { by-key = p; steadily = q; is-sound = s })
 
 -- ---- the decision
 module _ (inputs : Bool) (decide : List Row → Outcome) (b : List ℕ) where

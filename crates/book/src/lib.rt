@@ -39,17 +39,17 @@ fn opened(
     book: &[u8],
     inputs: bool,
     keys: &mut [u16; Slots::ALL],
-    lots: &mut [u16; Slots::ALL],
+    steady: &mut [u16; Slots::ALL],
 ) -> Status
-    requires { ⌜ (wholeRecords mostRecords (length (now book)) ≡ true → Empty (now book) (now keys) (now lots)) ⌝ }
+    requires { ⌜ (wholeRecords mostRecords (length (now book)) ≡ true → Empty (now book) (now keys) (now steady)) ⌝ }
     ensures { λ r. ⌜ r ≡ opening inputs (now (book .entry)) ⌝ }
-    ensures { λ r. ⌜ (isDone r ≡ true → Opened (now (book .entry)) (now (keys .exit)) (now (lots .exit))) ⌝ }
+    ensures { λ r. ⌜ (isDone r ≡ true → Opened (now (book .entry)) (now (keys .exit)) (now (steady .exit))) ⌝ }
 {
     if !whole(book.len(), Most::RECORDS) {
         return Status::BadBook;
     }
-    build(book, keys, lots);
-    if !sound_by(book, keys, lots) {
+    build(book, keys, steady);
+    if !sound_by(book, keys, steady) {
         return Status::Unsound;
     }
     if inputs {
@@ -75,8 +75,8 @@ fn lookup_on(book: &[u8], input: &[u8], answer: &mut [u8]) -> Status
 {
     let none = records(book);
     let mut keys = [none; Slots::ALL];
-    let mut lots = [none; Slots::ALL];
-    let s = opened(book, all_lookup(input), &mut keys, &mut lots);
+    let mut steady = [none; Slots::ALL];
+    let s = opened(book, all_lookup(input), &mut keys, &mut steady);
     if done(s) {
         return lookup(book, &keys, input, answer);
     }

@@ -5,7 +5,7 @@ ghost use mathlib.Core.Bool.{true};
 ghost use Rattle.model.specs.Rows.{rows};
 ghost use Rattle.model.specs.Sound.{bandApart, ratesFit, s1};
 ghost use Rattle.sound.specs.OneSide.{lotKept, summaryKept};
-ghost use Rattle.tables.specs.Bucket.{keyBucket, lotBucket};
+ghost use Rattle.tables.specs.Bucket.{keyBucket, steadyBucket};
 ghost use Rattle.tables.specs.Table.{Indexed};
 use kinds::limits::Ranges;
 use record::codes::Kind;
@@ -44,12 +44,12 @@ pub fn held(book: &[u8], keys: &[u16; Slots::ALL], l: Row) -> bool
         & summary_there(book, keys, l.party, l.symbol)
 }
 
-pub fn summed(book: &[u8], lots: &[u16; Slots::ALL], s: Row) -> bool
-    requires { ⌜ Indexed lotBucket (now book) (now lots) 0 ⌝ }
+pub fn summed(book: &[u8], steady: &[u16; Slots::ALL], s: Row) -> bool
+    requires { ⌜ Indexed steadyBucket (now book) (now steady) 0 ⌝ }
     requires { ⌜ s1 (rows (now book)) ≡ true ⌝ }
     ensures { λ b. ⌜ b ≡ summaryKept (rows (now (book .entry))) s ⌝ }
 {
-    let h = holding(book, lots, s.party, s.symbol);
+    let h = holding(book, steady, s.party, s.symbol);
     let equal = h.long + side(true, s.m1) == h.owed + side(false, s.m1);
     (1 <= h.lots) & equal & ((h.long == 0) | (h.owed == 0))
 }

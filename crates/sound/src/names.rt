@@ -2,7 +2,7 @@
 ghost use mathlib.Core.Path.{_≡_};
 ghost use Rattle.model.specs.Rows.{rows};
 ghost use Rattle.model.specs.Sound.{namesKnown};
-ghost use Rattle.tables.specs.Bucket.{keyBucket};
+ghost use Rattle.tables.specs.Bucket.{keyBucket, steadyBucket};
 ghost use Rattle.tables.specs.Table.{Indexed};
 use record::codes::Kind;
 use record::row::Row;
@@ -11,8 +11,14 @@ use tables::table::id_there;
 use tables::table::party_there;
 use tables::table::security_there;
 
-pub fn names_known(book: &[u8], keys: &[u16; Slots::ALL], r: Row) -> bool
+pub fn names_known(
+    book: &[u8],
+    keys: &[u16; Slots::ALL],
+    steady: &[u16; Slots::ALL],
+    r: Row,
+) -> bool
     requires { ⌜ Indexed keyBucket (now book) (now keys) 0 ⌝ }
+    requires { ⌜ Indexed steadyBucket (now book) (now steady) 0 ⌝ }
     ensures { λ b. ⌜ b ≡ namesKnown (rows (now (book .entry))) r ⌝ }
 {
     let kind = r.kind;
@@ -33,21 +39,21 @@ pub fn names_known(book: &[u8], keys: &[u16; Slots::ALL], r: Row) -> bool
         Kind::BAND => true,
         Kind::CHARGE => true,
         Kind::TRADE => {
-            party_there(book, keys, Kind::ACCOUNT, r.party) & security_there(book, keys, r.symbol)
+            party_there(book, keys, Kind::ACCOUNT, r.party) & security_there(book, steady, r.symbol)
         }
         Kind::REQUEST => {
             id_there(book, keys, Kind::TRADE, r.id)
                 & party_there(book, keys, Kind::BROKER, r.party)
-                & security_there(book, keys, r.symbol)
+                & security_there(book, steady, r.symbol)
         }
         Kind::TRADE_HISTORY => id_there(book, keys, Kind::TRADE, r.id),
         Kind::LOT => {
             id_there(book, keys, Kind::TRADE, r.id)
                 & party_there(book, keys, Kind::ACCOUNT, r.party)
-                & security_there(book, keys, r.symbol)
+                & security_there(book, steady, r.symbol)
         }
         Kind::SUMMARY => {
-            party_there(book, keys, Kind::ACCOUNT, r.party) & security_there(book, keys, r.symbol)
+            party_there(book, keys, Kind::ACCOUNT, r.party) & security_there(book, steady, r.symbol)
         }
         Kind::LOT_HISTORY => {
             id_there(book, keys, Kind::TRADE, r.id) & id_there(book, keys, Kind::TRADE, r.m2)

@@ -8,7 +8,7 @@ ghost use Rattle.record.specs.Codes.{kindTrade};
 ghost use Rattle.model.specs.Rows.{mostRecords, rows, wholeRecords};
 ghost use Rattle.model.specs.Sound.{s1, s2, sound};
 ghost use Rattle.model.specs.Tally.{bookStatus};
-ghost use Rattle.tables.specs.Bucket.{keyBucket, lotBucket};
+ghost use Rattle.tables.specs.Bucket.{keyBucket, steadyBucket};
 ghost use Rattle.tables.specs.Table.{Indexed};
 ghost use Rattle.sound.specs.ByRow.{kindRight, rowRight};
 use crate::holding::apart;
@@ -66,9 +66,9 @@ fn trade_right(book: &[u8], keys: &[u16; Slots::ALL], t: Row) -> bool
 }
 
 // S4 to S10 of a row.
-fn kind_right(book: &[u8], keys: &[u16; Slots::ALL], lots: &[u16; Slots::ALL], r: Row) -> bool
+fn kind_right(book: &[u8], keys: &[u16; Slots::ALL], steady: &[u16; Slots::ALL], r: Row) -> bool
     requires { ⌜ Indexed keyBucket (now book) (now keys) 0 ⌝ }
-    requires { ⌜ Indexed lotBucket (now book) (now lots) 0 ⌝ }
+    requires { ⌜ Indexed steadyBucket (now book) (now steady) 0 ⌝ }
     requires { ⌜ (s1 (rows (now book)) ≡ true) × (s2 (rows (now book)) ≡ true) ⌝ }
     ensures { λ b. ⌜ b ≡ kindRight (rows (now (book .entry))) r ⌝ }
 {
@@ -78,7 +78,7 @@ fn kind_right(book: &[u8], keys: &[u16; Slots::ALL], lots: &[u16; Slots::ALL], r
         Kind::BAND => apart(book, keys, r),
         Kind::TRADE => trade_right(book, keys, r),
         Kind::LOT => held(book, keys, r),
-        Kind::SUMMARY => summed(book, lots, r),
+        Kind::SUMMARY => summed(book, steady, r),
         Kind::LOT_HISTORY => done(book, keys, r),
         Kind::SETTLEMENT => paid(book, keys, r),
         Kind::CASH => due(book, keys, r),
@@ -86,25 +86,25 @@ fn kind_right(book: &[u8], keys: &[u16; Slots::ALL], lots: &[u16; Slots::ALL], r
     }
 }
 
-fn right(book: &[u8], keys: &[u16; Slots::ALL], lots: &[u16; Slots::ALL], r: Row) -> bool
+fn right(book: &[u8], keys: &[u16; Slots::ALL], steady: &[u16; Slots::ALL], r: Row) -> bool
     requires { ⌜ Indexed keyBucket (now book) (now keys) 0 ⌝ }
-    requires { ⌜ Indexed lotBucket (now book) (now lots) 0 ⌝ }
+    requires { ⌜ Indexed steadyBucket (now book) (now steady) 0 ⌝ }
     requires { ⌜ (s1 (rows (now book)) ≡ true) × (s2 (rows (now book)) ≡ true) ⌝ }
     ensures { λ b. ⌜ b ≡ rowRight (rows (now (book .entry))) r ⌝ }
 {
-    names_known(book, keys, r) & kind_right(book, keys, lots, r)
+    names_known(book, keys, steady, r) & kind_right(book, keys, steady, r)
 }
 
-fn all_right(book: &[u8], keys: &[u16; Slots::ALL], lots: &[u16; Slots::ALL]) -> bool
+fn all_right(book: &[u8], keys: &[u16; Slots::ALL], steady: &[u16; Slots::ALL]) -> bool
     requires { ⌜ Indexed keyBucket (now book) (now keys) 0 ⌝ }
-    requires { ⌜ Indexed lotBucket (now book) (now lots) 0 ⌝ }
+    requires { ⌜ Indexed steadyBucket (now book) (now steady) 0 ⌝ }
     requires { ⌜ (s1 (rows (now book)) ≡ true) × (s2 (rows (now book)) ≡ true) ⌝ }
     ensures { λ r. ⌜ r ≡ every (rowRight (rows (now (book .entry)))) (rows (now (book .entry))) ⌝ }
 {
     let n = book.len() / Grid::SIZE;
     let mut i = 0;
     while i < n {
-        if right(book, keys, lots, row_at(book, i)) {
+        if right(book, keys, steady, row_at(book, i)) {
             i += 1;
         } else {
             return false;
@@ -114,9 +114,9 @@ fn all_right(book: &[u8], keys: &[u16; Slots::ALL], lots: &[u16; Slots::ALL]) ->
 }
 
 // The book is sound, by its tables.
-pub fn sound_by(book: &[u8], keys: &[u16; Slots::ALL], lots: &[u16; Slots::ALL]) -> bool
+pub fn sound_by(book: &[u8], keys: &[u16; Slots::ALL], steady: &[u16; Slots::ALL]) -> bool
     requires { ⌜ Indexed keyBucket (now book) (now keys) 0 ⌝ }
-    requires { ⌜ Indexed lotBucket (now book) (now lots) 0 ⌝ }
+    requires { ⌜ Indexed steadyBucket (now book) (now steady) 0 ⌝ }
     ensures { λ r. ⌜ r ≡ sound (rows (now (book .entry))) ⌝ }
 {
     if !all_fit(book) {
@@ -125,7 +125,7 @@ pub fn sound_by(book: &[u8], keys: &[u16; Slots::ALL], lots: &[u16; Slots::ALL])
     if !unique(book, keys) {
         return false;
     }
-    all_right(book, keys, lots)
+    all_right(book, keys, steady)
 }
 
 fn sound(book: &[u8]) -> bool
@@ -134,9 +134,9 @@ fn sound(book: &[u8]) -> bool
 {
     let none = narrow(book.len() / Grid::SIZE);
     let mut keys = [none; Slots::ALL];
-    let mut lots = [none; Slots::ALL];
-    build(book, &mut keys, &mut lots);
-    sound_by(book, &keys, &lots)
+    let mut steady = [none; Slots::ALL];
+    build(book, &mut keys, &mut steady);
+    sound_by(book, &keys, &steady)
 }
 
 pub fn whole(n: usize, most: usize) -> bool

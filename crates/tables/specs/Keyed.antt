@@ -1,5 +1,5 @@
 -- In which bucket the rows of a key, of a holding and of a trade's histories are. Assumes nothing.
-use mathlib.Core.Path.{_≡_, sym, _∙_}
+use mathlib.Core.Path.{_≡_, refl, sym, _∙_}
 use mathlib.Core.Bool.{Bool, true, _&&_}
 use Prim.Native.Nat.{ℕ}
 use lib.Dec.{eqb}
@@ -9,10 +9,10 @@ use Rattle.record.specs.Codes.{kindAccount, kindBroker, kindCash, kindCustomer,
 use Rattle.record.specs.Codes.{kindSettlement, kindSummary, kindTaxRate, kindTrade, kindTradeHistory}
 use Rattle.record.specs.Key.{among, keyOf}
 use Rattle.record.specs.declared.row.Row.{Row}
-use Rattle.model.specs.Names.{aSecurity, aSummary, byId, byParty}
+use Rattle.model.specs.Names.{aSecurity, aSummary, aTrade, byId, byParty}
 use Rattle.model.specs.Rows.{hasKey, is}
 use Rattle.model.specs.Sound.{lotOf}
-use Rattle.tables.specs.Bucket.{bucketOf, keyBucket, lotBucket}
+use Rattle.tables.specs.Bucket.{bucketOf, keyBucket, steadyBucket}
 use Rattle.tables.specs.Names.{by-holder, by-id, by-party, by-symbol, idKinds, of-four}
 use Rattle.tables.specs.Names.{partyKinds}
 
@@ -44,8 +44,8 @@ both-eq : (a x b y : ℕ) → (eqb a x && eqb b y) ≡ true → (a ≡ x) × (b 
 both-eq a x b y e =
     (eqb-true a x (and-left (eqb a x) (eqb b y) e), eqb-true b y (and-right (eqb a x) (eqb b y) e))
 
-pub lot-bucket : (a s : ℕ) (r : Row) → lotOf a s r ≡ true → lotBucket r ≡ bucketOf kindLot 0 0 a 0 s
-unfolding lotBucket
+pub lot-bucket : (a s : ℕ) (r : Row) → lotOf a s r ≡ true → steadyBucket r ≡ bucketOf kindLot 0 0 a 0 s
+unfolding steadyBucket
 lot-bucket a s r e =
     let ka = both-eq (r .kind) kindLot (r .party) a
     (and-left (is kindLot r && eqb (r .party) a) (eqb (r .symbol) s) e) in
@@ -69,11 +69,19 @@ party-keyed k p q = record {
       let h = both-eq (r .kind) k (r .party) p (sym (by-party k q p r) ∙ e) in party-bucket k q r (h .0) ∙ rw (h .1);
 }
 
-symbol-bucket : (s : ℕ) (r : Row) → hasKey (aSecurity s) r ≡ true → keyBucket r ≡ bucketOf kindSecurity 0 0 0 0 s
-unfolding keyBucket keyOf
+trade-bucket : (i : ℕ) (r : Row) → hasKey (aTrade i) r ≡ true → steadyBucket r ≡ bucketOf kindTrade 0 0 0 i 0
+unfolding steadyBucket
+trade-bucket i r e =
+    let h = both-eq (r .kind) kindTrade (r .id) i (sym (by-id kindTrade refl i r) ∙ e) in rw (h .0, h .1)
+
+pub trade-keyed : (i : ℕ) → Keyed steadyBucket (hasKey (aTrade i)) (bucketOf kindTrade 0 0 0 i 0)
+trade-keyed i = record { all = trade-bucket i }
+
+symbol-bucket : (s : ℕ) (r : Row) → hasKey (aSecurity s) r ≡ true → steadyBucket r ≡ bucketOf kindSecurity 0 0 0 0 s
+unfolding steadyBucket
 symbol-bucket s r e = let h = both-eq (r .kind) kindSecurity (r .symbol) s (sym (by-symbol s r) ∙ e) in rw (h .0, h .1)
 
-pub symbol-keyed : (s : ℕ) → Keyed keyBucket (hasKey (aSecurity s)) (bucketOf kindSecurity 0 0 0 0 s)
+pub symbol-keyed : (s : ℕ) → Keyed steadyBucket (hasKey (aSecurity s)) (bucketOf kindSecurity 0 0 0 0 s)
 symbol-keyed s = record { all = symbol-bucket s }
 
 holder-bucket : (a s : ℕ) (r : Row) → hasKey (aSummary a s) r ≡ true → keyBucket r ≡ bucketOf kindSummary 0 0 a 0 s

@@ -25,7 +25,7 @@ use Rattle.model.specs.Names.{aHistory, aTaxRate}
 use Rattle.model.specs.Rows.{found, hasKey, is, mostRecords, nothing, rows, there}
 use Rattle.model.specs.Sound.{lotOf, overlaps, rateOf, s1}
 use Rattle.shelf.specs.Rows.{length-rows, rowAt}
-use Rattle.tables.specs.Bucket.{bucketOf, keyBucket, lotBucket}
+use Rattle.tables.specs.Bucket.{bucketOf, keyBucket, steadyBucket}
 use Rattle.tables.specs.Names.{by-status, ofId, ofParty}
 use Rattle.laws.specs.Place.{every-at}
 use Rattle.tables.specs.Table.{Counted}
@@ -99,9 +99,9 @@ abbrev pub HoldsSide : Bool → ℕ → ℕ → List Row → ℕ → Type 0
 HoldsSide owed account symbol rs x = (x ≡ total (sharesPart owed account symbol) rs) × (x ≤ sharesMost * mostRecords)
 
 pub shares-counted : (owed : Bool) (account symbol : ℕ)
-    → Counted lotBucket (sharesPart owed account symbol) sharesMost (bucketOf kindLot 0 0 account 0 symbol)
+    → Counted steadyBucket (sharesPart owed account symbol) sharesMost (bucketOf kindLot 0 0 account 0 symbol)
 shares-counted owed account symbol =
-    only-keyed lotBucket (lotOf account symbol) (sharesPart owed account symbol) sharesMost
+    only-keyed steadyBucket (lotOf account symbol) (sharesPart owed account symbol) sharesMost
     (bucketOf kindLot 0 0 account 0 symbol) (record { all = lot-bucket account symbol }) (λ r q. rw q)
 
 -- the two sides by the bits
@@ -145,9 +145,9 @@ pub part-no : (owed : Bool) (account symbol : ℕ) (r : Row) {t : Bool} → t �
 part-no owed account symbol r h e = rw (sym h ∙ e)
 
 pub lots-counted : (account symbol : ℕ)
-    → Counted lotBucket (λ r. bit (lotOf account symbol r)) 1 (bucketOf kindLot 0 0 account 0 symbol)
+    → Counted steadyBucket (λ r. bit (lotOf account symbol r)) 1 (bucketOf kindLot 0 0 account 0 symbol)
 lots-counted account symbol =
-    only-keyed lotBucket (lotOf account symbol) (λ r. bit (lotOf account symbol r)) 1
+    only-keyed steadyBucket (lotOf account symbol) (λ r. bit (lotOf account symbol r)) 1
     (bucketOf kindLot 0 0 account 0 symbol)
     (record { all = lot-bucket account symbol }) (λ r q. rw q)
 

@@ -10,7 +10,7 @@ use native.Mathlib.Omega.{arith}
 use lib.ListN.{length, drop, getD, set, replicate, length-set, length-replicate, getD-replicate}
 use lib.Dec.{leb, ltb}
 use borrow.Author.Tests.{eq-eqb, eqb-true, eqb-false}
-use Rattle.laws.specs.Chain.{Chained, chain-start, chain-more, numbered}
+use Rattle.laws.specs.Chain.{Chained, chain-start, chain-more, chain-put, numbered}
 use Rattle.laws.specs.Search.{count, place, seek, total}
 use Rattle.laws.specs.Walk.{from, from-high, from-holds, from-low, from-passes, from-skips, left-next, left-none}
 use Rattle.record.specs.Key.{keyOf}
@@ -22,7 +22,7 @@ use Rattle.shelf.specs.Loop.{Sought, seek-found, seek-more, seek-none}
 use Rattle.shelf.specs.Rows.{length-rows, rowAt}
 use Rattle.tables.specs.Bucket.{bucketOfKey, headCount, keyBucket}
 use Rattle.laws.specs.Place.{some-place, the-place}
-use Rattle.tables.specs.Keyed.{Keyed, holder-keyed, id-keyed, party-keyed, symbol-keyed}
+use Rattle.tables.specs.Keyed.{Keyed, holder-keyed, id-keyed, party-keyed, symbol-keyed, trade-keyed}
 
 -- the heads of the buckets, and after them a link for each place
 abbrev pub tableSize : ℕ
@@ -75,6 +75,18 @@ table-more {g} {b} {table} {i} s {h} {v} {r} p a k z q =
 
 pub table-end : {g : Row → ℕ} {b table : List ℕ} {i : ℕ} → Indexed g b table i → i ≤ 0 → Indexed g b table 0
 table-end {i = i} s h = let e : i ≡ 0 = omega arith in rw e at s
+
+-- a row of the same number may be put in the place of another
+pub table-put : {g : Row → ℕ} {b table : List ℕ} → Indexed g b table 0 → (b' : List ℕ) (i : ℕ) (r : Row)
+    → length b' ≡ length b → rows b' ≡ set (rows b) i r → (i < length b / 64 → g r ≡ g (rowAt b i))
+    → Indexed g b' table 0
+table-put {g} {b} s b' i r e q k =
+    record {
+      within = omega arith;
+      few = rw e (s .few);
+      long = s .long;
+      chained = rw q (chain-put g nothing headCount (rows b) (s .chained) i r (λ h. k (rw length-rows at h)));
+    }
 
 has : (g : Row → ℕ) (r : Row) (h : ℕ) → g r ≡ h → numbered g h r ≡ true
 unfolding numbered
@@ -251,6 +263,7 @@ pub ruleset tables = (
   id-keyed,
   party-keyed,
   symbol-keyed,
+  trade-keyed,
   tally-start,
   tally-more,
   tally-all,

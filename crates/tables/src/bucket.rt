@@ -1,8 +1,9 @@
 // The bucket of a row in a table: by its key, without the fields that bands, rates and histories of one name differ
-// in; and, of a lot, by its account and symbol. What a table does not list has a bucket of its own.
+// in; and, of what a call changes only where it stands, a lot by its account and symbol, a trade by its number, a
+// security by its symbol. What a table does not list has a bucket of its own.
 ghost use mathlib.Core.Path.{_≡_};
 ghost use Prim.Native.Nat.{_<_};
-ghost use Rattle.tables.specs.Bucket.{bucketOf, headCount, keyBucket, lotBucket};
+ghost use Rattle.tables.specs.Bucket.{bucketOf, headCount, keyBucket, steadyBucket};
 use record::codes::Kind;
 use record::key::Key;
 use record::row::Row;
@@ -41,11 +42,14 @@ pub fn key_bucket(r: Row) -> usize
     bucket(k.kind, k.form, k.flags, k.party, k.id, k.symbol)
 }
 
-pub fn lot_bucket(r: Row) -> usize
-    ensures { λ b. ⌜ (b ≡ lotBucket r) × (b < headCount) ⌝ }
+pub fn steady_bucket(r: Row) -> usize
+    ensures { λ b. ⌜ (b ≡ steadyBucket r) × (b < headCount) ⌝ }
 {
-    if r.kind == Kind::LOT {
-        return bucket(Kind::LOT, 0, 0, r.party, 0, r.symbol);
+    let kind = r.kind;
+    match kind {
+        Kind::LOT => bucket(Kind::LOT, 0, 0, r.party, 0, r.symbol),
+        Kind::TRADE => bucket(Kind::TRADE, 0, 0, 0, r.id, 0),
+        Kind::SECURITY => bucket(Kind::SECURITY, 0, 0, 0, 0, r.symbol),
+        _ => 8192,
     }
-    8192
 }

@@ -8,7 +8,7 @@ ghost use Rattle.rules.specs.Rules.{fits};
 ghost use Rattle.model.specs.Names.{aHistory};
 ghost use Rattle.model.specs.Rows.{hasKey, rows};
 ghost use Rattle.model.specs.Sound.{lotOf, overlaps, rateOf, ratesOf, s1};
-ghost use Rattle.tables.specs.Bucket.{keyBucket, lotBucket};
+ghost use Rattle.tables.specs.Bucket.{keyBucket, steadyBucket};
 ghost use Rattle.tables.specs.Sums.{HoldsSide, higherThan, historyKept, sharesPart, side};
 ghost use Rattle.tables.specs.Table.{Indexed};
 use crate::bucket::bucket;
@@ -132,8 +132,8 @@ fn part(account: u32, symbol: u64, row: Row) -> Held
     }
 }
 
-pub fn holding(book: &[u8], lots: &[u16; Slots::ALL], account: u32, symbol: u64) -> Held
-    requires { ⌜ Indexed lotBucket (now book) (now lots) 0 ⌝ }
+pub fn holding(book: &[u8], steady: &[u16; Slots::ALL], account: u32, symbol: u64) -> Held
+    requires { ⌜ Indexed steadyBucket (now book) (now steady) 0 ⌝ }
     requires { ⌜ s1 (rows (now book)) ≡ true ⌝ }
     ensures { λ r. ⌜ r .lots ≡ count (lotOf account symbol) (rows (now (book .entry))) ⌝ }
     ensures { λ r. ⌜ HoldsSide false account symbol (rows (now (book .entry))) (r .long) ⌝ }
@@ -144,14 +144,14 @@ pub fn holding(book: &[u8], lots: &[u16; Slots::ALL], account: u32, symbol: u64)
     let mut many = 0;
     let mut long = 0;
     let mut owed = 0;
-    let mut c = wide(lots[h]);
+    let mut c = wide(steady[h]);
     while c < n {
         let more = part(account, symbol, row_at(book, c));
         many += more.lots;
         long += more.long;
         owed += more.owed;
         let s = Slots::HEADS + c;
-        c = wide(lots[s]);
+        c = wide(steady[s]);
     }
     Held {
         lots: many,

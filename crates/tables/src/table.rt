@@ -1,19 +1,20 @@
-// The tables of a book: how they are built, and the row of a key by them.
+// The tables of a book: how they are built, and the row of a key by them. `keys` lists every row by its key, and
+// `steady` what a call changes only where it stands, so that it fits the book while the call changes it.
 ghost use mathlib.Core.Path.{_≡_};
 ghost use mathlib.Core.Bool.{true};
 ghost use Prim.Native.Nat.{_+_, _/_, _<_, _≤_};
 ghost use lib.ListN.{drop, length};
 ghost use Rattle.laws.specs.Search.{place, seek};
 ghost use Rattle.record.specs.Key.{among, keyOf};
-ghost use Rattle.model.specs.Names.{aSecurity, aSummary, byId, byParty};
+ghost use Rattle.model.specs.Names.{aSecurity, aSummary, aTrade, byId, byParty};
 ghost use Rattle.model.specs.Rows.{found, hasKey, mostRecords, rows, there};
 ghost use Rattle.shelf.specs.Rows.{rowAt};
-ghost use Rattle.tables.specs.Bucket.{keyBucket, lotBucket};
+ghost use Rattle.tables.specs.Bucket.{keyBucket, steadyBucket};
 ghost use Rattle.tables.specs.Names.{idKinds, partyKinds};
 ghost use Rattle.tables.specs.Table.{Blank, Indexed};
 use crate::bucket::bucket;
 use crate::bucket::key_bucket;
-use crate::bucket::lot_bucket;
+use crate::bucket::steady_bucket;
 use crate::test::of_id;
 use crate::test::of_party;
 use crate::test::security;
@@ -49,11 +50,11 @@ pub fn narrow(x: usize) -> u16
 }
 
 // Puts the places of a book into its two tables, the last first.
-pub fn build(book: &[u8], keys: &mut [u16; Slots::ALL], lots: &mut [u16; Slots::ALL])
+pub fn build(book: &[u8], keys: &mut [u16; Slots::ALL], steady: &mut [u16; Slots::ALL])
     requires { ⌜ length (now book) / 64 ≤ mostRecords ⌝ }
-    requires { ⌜ Blank (now book) (now keys) × Blank (now book) (now lots) ⌝ }
+    requires { ⌜ Blank (now book) (now keys) × Blank (now book) (now steady) ⌝ }
     ensures { λ _. ⌜ Indexed keyBucket (now (book .entry)) (now (keys .exit)) 0 ⌝ }
-    ensures { λ _. ⌜ Indexed lotBucket (now (book .entry)) (now (lots .exit)) 0 ⌝ }
+    ensures { λ _. ⌜ Indexed steadyBucket (now (book .entry)) (now (steady .exit)) 0 ⌝ }
 {
     let mut i = book.len() / Grid::SIZE;
     while 0 < i {
@@ -63,9 +64,9 @@ pub fn build(book: &[u8], keys: &mut [u16; Slots::ALL], lots: &mut [u16; Slots::
         let k = key_bucket(row);
         keys[s] = keys[k];
         keys[k] = narrow(j);
-        let l = lot_bucket(row);
-        lots[s] = lots[l];
-        lots[l] = narrow(j);
+        let h = steady_bucket(row);
+        steady[s] = steady[h];
+        steady[h] = narrow(j);
         i = j;
     }
 }
@@ -107,19 +108,37 @@ fn by_party(book: &[u8], keys: &[u16; Slots::ALL], kind: u8, party: u32) -> usiz
     c
 }
 
-fn by_symbol(book: &[u8], keys: &[u16; Slots::ALL], symbol: u64) -> usize
-    requires { ⌜ Indexed keyBucket (now book) (now keys) 0 ⌝ }
+// The place of a trade, the number of records where there is none.
+pub fn trade_at(book: &[u8], steady: &[u16; Slots::ALL], id: u64) -> usize
+    requires { ⌜ Indexed steadyBucket (now book) (now steady) 0 ⌝ }
+    ensures { λ r. ⌜ r ≡ place (hasKey (aTrade id)) (rows (now (book .entry))) ⌝ }
+{
+    let n = book.len() / Grid::SIZE;
+    let h = bucket(Kind::TRADE, 0, 0, 0, id, 0);
+    let mut c = wide(steady[h]);
+    while c < n {
+        if of_id(Kind::TRADE, id, row_at(book, c)) {
+            return c;
+        }
+        let s = Slots::HEADS + c;
+        c = wide(steady[s]);
+    }
+    c
+}
+
+pub fn security_at(book: &[u8], steady: &[u16; Slots::ALL], symbol: u64) -> usize
+    requires { ⌜ Indexed steadyBucket (now book) (now steady) 0 ⌝ }
     ensures { λ r. ⌜ r ≡ place (hasKey (aSecurity symbol)) (rows (now (book .entry))) ⌝ }
 {
     let n = book.len() / Grid::SIZE;
     let h = bucket(Kind::SECURITY, 0, 0, 0, 0, symbol);
-    let mut c = wide(keys[h]);
+    let mut c = wide(steady[h]);
     while c < n {
         if security(symbol, row_at(book, c)) {
             return c;
         }
         let s = Slots::HEADS + c;
-        c = wide(keys[s]);
+        c = wide(steady[s]);
     }
     c
 }
@@ -174,11 +193,11 @@ pub fn party_row(book: &[u8], keys: &[u16; Slots::ALL], kind: u8, party: u32) ->
     row_at(book, by_party(book, keys, kind, party))
 }
 
-pub fn security_there(book: &[u8], keys: &[u16; Slots::ALL], symbol: u64) -> bool
-    requires { ⌜ Indexed keyBucket (now book) (now keys) 0 ⌝ }
+pub fn security_there(book: &[u8], steady: &[u16; Slots::ALL], symbol: u64) -> bool
+    requires { ⌜ Indexed steadyBucket (now book) (now steady) 0 ⌝ }
     ensures { λ r. ⌜ r ≡ there (aSecurity symbol) (rows (now (book .entry))) ⌝ }
 {
-    by_symbol(book, keys, symbol) < book.len() / Grid::SIZE
+    security_at(book, steady, symbol) < book.len() / Grid::SIZE
 }
 
 pub fn summary_there(book: &[u8], keys: &[u16; Slots::ALL], account: u32, symbol: u64) -> bool

@@ -14,7 +14,7 @@ build-requires c κs =
     let checked = c .before .before in
     let whole = rule-kept (checked .before .whole .ensures) (checked .if1 .left) in
     let empty = checked .before .before .before .pre whole in
-    (few _ _ whole, (empty .by-key, empty .by-holder))
+    (few _ _ whole, (empty .by-key, empty .steadily))
 
 returns-2 : tie.Need-returns-2
 returns-2 c =

@@ -9,10 +9,10 @@ use Rattle.sound.proofs.whole.all_right.Statement.{statement}
 use Rattle.sound.proofs.whole.all_right.Tie as tie
 
 abbrev Inv-loop : tie.InvT-loop
-Inv-loop book keys lots n i₀ i = Checked (rowRight (rows book)) book (every (rowRight (rows book)) (rows book)) i
+Inv-loop book keys steady n i₀ i = Checked (rowRight (rows book)) book (every (rowRight (rows book)) (rows book)) i
 
 abbrev μ-loop : tie.MeasureT-loop
-μ-loop book keys lots n i₀ i = n - i
+μ-loop book keys steady n i₀ i = n - i
 
 pub all-right-spec : {M : Type 1} → statement M
 all-right-spec =

@@ -8,7 +8,7 @@ use Rattle.record.specs.Codes.{kindLot}
 use Rattle.rules.specs.Ranges.{sharesMost}
 use Rattle.model.specs.Rows.{rows}
 use Rattle.model.specs.Sound.{lotOf}
-use Rattle.tables.specs.Bucket.{bucketOf, lotBucket}
+use Rattle.tables.specs.Bucket.{bucketOf, steadyBucket}
 use Rattle.tables.specs.Sums.{fits-there, lots-counted, shares-counted, sharesPart}
 use borrow.Author.Needs.{needs}
 use Rattle.tables.specs.Table.{Tallied, tables, tally-all}
@@ -16,16 +16,16 @@ use Rattle.tables.proofs.sums.holding.Statement.{statement}
 use Rattle.tables.proofs.sums.holding.Tie as tie
 
 abbrev Inv-loop : tie.InvT-loop
-Inv-loop book lots account symbol n h many₀ long₀ owed₀ c₀ many long owed c =
-    Tallied lotBucket (λ r. bit (lotOf account symbol r)) 1 (bucketOf kindLot 0 0 account 0 symbol) book
+Inv-loop book steady account symbol n h many₀ long₀ owed₀ c₀ many long owed c =
+    Tallied steadyBucket (λ r. bit (lotOf account symbol r)) 1 (bucketOf kindLot 0 0 account 0 symbol) book
     (count (lotOf account symbol) (rows book)) many c
-    × (Tallied lotBucket (sharesPart false account symbol) sharesMost (bucketOf kindLot 0 0 account 0 symbol) book
+    × (Tallied steadyBucket (sharesPart false account symbol) sharesMost (bucketOf kindLot 0 0 account 0 symbol) book
     (total (sharesPart false account symbol) (rows book)) long c
-    × Tallied lotBucket (sharesPart true account symbol) sharesMost (bucketOf kindLot 0 0 account 0 symbol) book
+    × Tallied steadyBucket (sharesPart true account symbol) sharesMost (bucketOf kindLot 0 0 account 0 symbol) book
     (total (sharesPart true account symbol) (rows book)) owed c)
 
 abbrev μ-loop : tie.MeasureT-loop
-μ-loop book lots account symbol n h many₀ long₀ owed₀ c₀ many long owed c = n - c
+μ-loop book steady account symbol n h many₀ long₀ owed₀ c₀ many long owed c = n - c
 
 loop-holds : tie.Need-loop-holds Inv-loop μ-loop
 unfolding count

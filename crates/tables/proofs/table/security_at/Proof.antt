@@ -1,25 +1,25 @@
--- As `by_id`, for another key. Assumes nothing.
+-- As `by_id`, by the other table. Assumes nothing.
 use Prim.Native.Nat.{_-_}
 use Rattle.laws.specs.Search.{place}
 use Rattle.record.specs.Codes.{kindSecurity}
 use Rattle.model.specs.Names.{aSecurity}
 use Rattle.model.specs.Rows.{hasKey, rows}
-use Rattle.tables.specs.Bucket.{bucketOf, keyBucket}
+use Rattle.tables.specs.Bucket.{bucketOf, steadyBucket}
 use borrow.Author.Needs.{needs}
 use Rattle.tables.specs.Table.{Probed, tables}
-use Rattle.tables.proofs.table.by_symbol.Statement.{statement}
-use Rattle.tables.proofs.table.by_symbol.Tie as tie
+use Rattle.tables.proofs.table.security_at.Statement.{statement}
+use Rattle.tables.proofs.table.security_at.Tie as tie
 
 abbrev Inv-loop : tie.InvT-loop
-Inv-loop book keys symbol n h c₀ c =
-    Probed keyBucket (hasKey (aSecurity symbol)) (bucketOf kindSecurity 0 0 0 0 symbol) book
+Inv-loop book steady symbol n h c₀ c =
+    Probed steadyBucket (hasKey (aSecurity symbol)) (bucketOf kindSecurity 0 0 0 0 symbol) book
     (place (hasKey (aSecurity symbol)) (rows book)) c
 
 abbrev μ-loop : tie.MeasureT-loop
-μ-loop book keys symbol n h c₀ c = n - c
+μ-loop book steady symbol n h c₀ c = n - c
 
-pub by-symbol-spec : {M : Type 1} → statement M
-by-symbol-spec =
+pub security-at-spec : {M : Type 1} → statement M
+security-at-spec =
     tie.close
     (tie.spec
     Inv-loop
