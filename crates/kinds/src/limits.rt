@@ -85,6 +85,8 @@ impl Ranges {
     pub const CHARGE: R32 = R32(0, 999_999);
     // A trade's commission, and its tax.
     pub const FEE: R64 = R64(0, 100_000_000_000_000);
+
+    pub const VOLUME_MOST: u64 = 999_999_999_999;
     // A balance, a settlement and a cash row's amount, either way from zero.
     pub const MONEY_MOST: u64 = 999_999_999_999_999;
 }

@@ -229,7 +229,7 @@ impl Security {
         form: Ranges::EXCHANGE,
         symbol: Ranges::ANY64,
         n1: Ranges::PRICE,
-        m1: R64(0, 999_999_999_999),
+        m1: R64(0, Ranges::VOLUME_MOST),
         time: Ranges::TIME,
         ..Limits::NONE
     };

@@ -1,0 +1,4 @@
+pub mod Hits
+pub mod Put
+pub mod Steps
+pub mod Volumes

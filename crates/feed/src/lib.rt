@@ -1,0 +1,1 @@
+// Market-Feed: what holds of the model.
