@@ -1,6 +1,6 @@
 -- Finds and counts by the place of the first that passes. Assumes nothing.
 use mathlib.Core.Path.{_≡_, refl, sym, _∙_}
-use mathlib.Core.Bool.{Bool, true, false}
+use mathlib.Core.Bool.{Bool, true, false, false≢true}
 use mathlib.Core.List.{List, [], _∷_}
 use Prim.Native.Nat.{ℕ, zero, suc, _+_, _<_}
 use native.Mathlib.Nat.{zero-add}
@@ -33,6 +33,15 @@ module _ {A : Type 0} where
           → the p d (x ∷ l) ≡ getD (x ∷ l) (place p (x ∷ l)) d
       go true e ih = rw e
       go false e ih = rw (e, seek-suc p 0 l) ih
+
+  pub the-passes : (p : A → Bool) (d : A) (l : List A) → leb 1 (count p l) ≡ true → p (the p d l) ≡ true
+  unfolding the count total
+  the-passes p d [] h = absurd (false≢true h)
+  the-passes p d (x ∷ l) h = go (the-passes p d l) (p x) refl
+    where
+      go : (leb 1 (count p l) ≡ true → p (the p d l) ≡ true) → (t : Bool) → p x ≡ t → p (the p d (x ∷ l)) ≡ true
+      go ih true e = rw e e
+      go ih false e = rw e (ih (rw (e, zero-add (count p l)) at h))
 
   -- some pass where the place is not the end
   pub some-place : (p : A → Bool) (l : List A) → leb 1 (count p l) ≡ ltb (place p l) (length l)

@@ -1,0 +1,202 @@
+-- A row put in the place of another: the place where it comes to stand, and what is found, kept and counted then.
+-- Assumes nothing.
+use mathlib.Core.Path.{_≡_, refl, sym, ap, _∙_}
+use mathlib.Core.Bool.{Bool, true, false}
+use mathlib.Core.List.{List, [], _∷_}
+use Prim.Native.Nat.{ℕ, suc, _+_, _≤_}
+use native.Mathlib.Omega.{arith}
+use lib.Dec.{eqb, leb, ltb}
+use lib.ListN.{length, getD, set, List·getD-eq-default}
+use lib.Seq.{getD-set-same, getD-set-other, set-out}
+use borrow.Author.Tests.{eq-eqb, eqb-true, eqb-false, ltb-true, ltb-false}
+use Rattle.laws.specs.Change.{count-other, count-same, keep-other, put, put-place, put-the, the-other, the-same}
+use Rattle.laws.specs.Digits.{Digit, digits-equal, head-equal}
+use Rattle.laws.specs.Place.{every-at}
+use Rattle.laws.specs.Search.{count, keep, place, seek}
+use Rattle.laws.specs.Tests.{one-truth}
+use Rattle.record.specs.Codes.{kindFree}
+use Rattle.record.specs.declared.key.Key.{Key}
+use Rattle.record.specs.declared.row.Row.{Row}
+use Rattle.rules.specs.Meaning.{means-free}
+use Rattle.rules.specs.Rules.{as-kind, fits}
+use Rattle.model.specs.Rows.{found, hasKey, is, nothing, sameRow, there}
+use Rattle.model.specs.Sound.{s1}
+use Rattle.shelf.specs.Rows.{freeFrom}
+
+-- ---- the test tells equality
+row-eq : {a b : Row} → a .kind ≡ b .kind → a .form ≡ b .form → a .status ≡ b .status → a .flags ≡ b .flags
+    → a .party ≡ b .party → a .id ≡ b .id → a .symbol ≡ b .symbol → a .n1 ≡ b .n1 → a .n2 ≡ b .n2 → a .n3 ≡ b .n3
+    → a .n4 ≡ b .n4 → a .m1 ≡ b .m1 → a .m2 ≡ b .m2 → a .time ≡ b .time → a .n5 ≡ b .n5 → a ≡ b
+row-eq e0 e1 e2 e3 e4 e5 e6 e7 e8 e9 e10 e11 e12 e13 e14 = λ i. record {
+  kind = e0 i;
+  form = e1 i;
+  status = e2 i;
+  flags = e3 i;
+  party = e4 i;
+  id = e5 i;
+  symbol = e6 i;
+  n1 = e7 i;
+  n2 = e8 i;
+  n3 = e9 i;
+  n4 = e10 i;
+  m1 = e11 i;
+  m2 = e12 i;
+  time = e13 i;
+  n5 = e14 i;
+}
+
+abbrev field : ℕ → ℕ → Digit
+field x y = record { base = 0; mine = x; yours = y }
+
+abbrev fields : Row → Row → List Digit
+fields a b =
+    field (a .form) (b .form)
+    ∷ field (a .status) (b .status)
+    ∷ field (a .flags) (b .flags)
+    ∷ field (a .party) (b .party)
+    ∷ field (a .id) (b .id)
+    ∷ field (a .symbol) (b .symbol)
+    ∷ field (a .n1) (b .n1)
+    ∷ field (a .n2) (b .n2)
+    ∷ field (a .n3) (b .n3)
+    ∷ field (a .n4) (b .n4)
+    ∷ field (a .m1) (b .m1)
+    ∷ field (a .m2) (b .m2)
+    ∷ field (a .time) (b .time)
+    ∷ field (a .n5) (b .n5)
+    ∷ []
+
+pub same-rows : (a b : Row) → sameRow a b ≡ true → a ≡ b
+unfolding sameRow
+same-rows a b e =
+    let s = eqb (a .kind) (b .kind) in
+    let at = digits-equal s (fields a b) e in
+    row-eq
+    (eqb-true (a .kind) (b .kind) (head-equal s (fields a b) e))
+    (at 0)
+    (at 1)
+    (at 2)
+    (at 3)
+    (at 4)
+    (at 5)
+    (at 6)
+    (at 7)
+    (at 8)
+    (at 9)
+    (at 10)
+    (at 11)
+    (at 12)
+    (at 13)
+
+pub row-itself : (a : Row) → sameRow a a ≡ true
+unfolding sameRow
+row-itself a =
+    rw (
+      eq-eqb (a .kind) (a .kind) refl,
+      eq-eqb (a .form) (a .form) refl,
+      eq-eqb (a .status) (a .status) refl,
+      eq-eqb (a .flags) (a .flags) refl,
+      eq-eqb (a .party) (a .party) refl,
+      eq-eqb (a .id) (a .id) refl,
+      eq-eqb (a .symbol) (a .symbol) refl,
+      eq-eqb (a .n1) (a .n1) refl,
+      eq-eqb (a .n2) (a .n2) refl,
+      eq-eqb (a .n3) (a .n3) refl,
+      eq-eqb (a .n4) (a .n4) refl,
+      eq-eqb (a .m1) (a .m1) refl,
+      eq-eqb (a .m2) (a .m2) refl,
+      eq-eqb (a .time) (a .time) refl,
+      eq-eqb (a .n5) (a .n5) refl,
+    )
+
+-- ---- a row that is found is changed in the place of its key
+pub put-found : (k : Key) (n : Row) (rs : List Row) → there k rs ≡ true
+    → put sameRow (found k rs) n rs ≡ set rs (place (hasKey k) rs) n
+unfolding there found
+put-found k n rs e = put-the sameRow same-rows row-itself (hasKey k) nothing n rs e
+
+-- ---- a row is added in the lowest free place
+-- no row of the kind of free rows is anything but zeros
+abbrev pub Clean : List Row → Type 0
+Clean rs = (i : ℕ) → getD rs i nothing .kind ≡ kindFree → getD rs i nothing ≡ nothing
+
+free-place : (i : ℕ) (rs : List Row) → Clean rs → seek (sameRow nothing) i rs ≡ seek (is kindFree) i rs
+unfolding seek
+free-place i [] c = refl
+free-place i (x ∷ l) c =
+    let e : sameRow nothing x ≡ is kindFree x =
+    one-truth (sameRow nothing x) (is kindFree x)
+    (λ h. eq-eqb (x .kind) kindFree (ap (λ (r : Row). r .kind) (sym (same-rows nothing x h))))
+    (λ h. ap (sameRow nothing) (c 0 (eqb-true (x .kind) kindFree h)) ∙ row-itself nothing)
+    in
+    rw (e, free-place (i + 1) l (λ j. c (suc j)))
+
+pub put-free : (n : Row) (rs : List Row) → Clean rs → put sameRow nothing n rs ≡ set rs (freeFrom rs 0) n
+put-free n rs c = put-place sameRow nothing n rs ∙ rw (free-place 0 rs c)
+
+none : (x : ℕ) → x ≤ 0 → x ≡ 0
+none x h = omega arith
+
+free-is : (r : Row) → fits r ≡ true → r .kind ≡ kindFree → r ≡ nothing
+free-is r f k =
+    let h = means-free r .shows (as-kind kindFree r k ∙ f) in
+    row-eq k (none _ (h .2 .1)) (none _ (h .2 .2 .1)) (none _ (h .2 .2 .2 .1)) (none _ (h .2 .2 .2 .2 .1))
+    (none _ (h .2 .2 .2 .2 .2 .1)) (none _ (h .2 .2 .2 .2 .2 .2 .1)) (none _ (h .2 .2 .2 .2 .2 .2 .2 .1))
+    (none _ (h .2 .2 .2 .2 .2 .2 .2 .2 .1)) (none _ (h .2 .2 .2 .2 .2 .2 .2 .2 .2 .1))
+    (none _ (h .2 .2 .2 .2 .2 .2 .2 .2 .2 .2 .1)) (none _ (h .2 .2 .2 .2 .2 .2 .2 .2 .2 .2 .2 .1))
+    (none _ (h .2 .2 .2 .2 .2 .2 .2 .2 .2 .2 .2 .2 .1)) (none _ (h .2 .2 .2 .2 .2 .2 .2 .2 .2 .2 .2 .2 .2 .1))
+    (none _ (h .2 .2 .2 .2 .2 .2 .2 .2 .2 .2 .2 .2 .2 .2 .1))
+
+pub clean-fit : (rs : List Row) → s1 rs ≡ true → Clean rs
+unfolding s1
+clean-fit rs e i k = go (ltb i (length rs)) refl
+  where
+    go : (t : Bool) → ltb i (length rs) ≡ t → getD rs i nothing ≡ nothing
+    go true h = free-is (getD rs i nothing) (every-at fits nothing rs i e (ltb-true i (length rs) h)) k
+    go false h = List·getD-eq-default rs nothing (ltb-false i (length rs) h)
+
+pub clean-set : (rs : List Row) (i : ℕ) (n : Row) → Clean rs → (n .kind ≡ kindFree → ⊥) → Clean (set rs i n)
+clean-set rs i n c f j k = go (eqb j i) (ltb i (length rs)) refl refl
+  where
+    go : (t u : Bool) → eqb j i ≡ t → ltb i (length rs) ≡ u → getD (set rs i n) j nothing ≡ nothing
+    go false u e h =
+        let o = getD-set-other rs i j n nothing (eqb-false j i e) in
+        o ∙ c j (ap (λ (r : Row). r .kind) (sym o) ∙ k)
+    go true true e h =
+        let q : getD (set rs i n) j nothing ≡ n =
+        ap (λ (x : ℕ). getD (set rs i n) x nothing) (eqb-true j i e)
+        ∙ getD-set-same rs i n nothing (ltb-true i (length rs) h)
+        in
+        absurd (f (ap (λ (r : Row). r .kind) (sym q) ∙ k))
+    go true false e h =
+        let o : getD (set rs i n) j nothing ≡ getD rs j nothing =
+        ap (λ (l : List Row). getD l j nothing) (set-out rs i n (ltb-false i (length rs) h))
+        in
+        o ∙ c j (ap (λ (r : Row). r .kind) (sym o) ∙ k)
+
+-- ---- what is found, kept and counted after a put
+module _ (o n : Row) (rs : List Row) where
+  module _ (k : Key) (was : hasKey k o ≡ false) (now : hasKey k n ≡ false) where
+    pub found-other : found k (put sameRow o n rs) ≡ found k rs
+    unfolding found
+    found-other = the-other sameRow same-rows (hasKey k) o n was now nothing rs
+
+    pub there-other : there k (put sameRow o n rs) ≡ there k rs
+    unfolding there
+    there-other = ap (leb 1) (count-other sameRow same-rows (hasKey k) o n was now rs)
+
+  module _ (k : Key) (e : there k rs ≡ true) (was : o ≡ found k rs) (now : hasKey k n ≡ true) where
+    pub found-same : found k (put sameRow o n rs) ≡ n
+    unfolding found there
+    found-same = rw was (the-same sameRow same-rows row-itself (hasKey k) nothing n now rs e)
+
+    pub there-same : there k (put sameRow o n rs) ≡ true
+    unfolding found there
+    there-same = rw was (ap (leb 1) (count-same sameRow same-rows row-itself (hasKey k) nothing n now rs e) ∙ e)
+
+  module _ (p : Row → Bool) (was : p o ≡ false) (now : p n ≡ false) where
+    pub keep-put : keep p (put sameRow o n rs) ≡ keep p rs
+    keep-put = keep-other sameRow same-rows p o n was now rs
+
+    pub count-put : count p (put sameRow o n rs) ≡ count p rs
+    count-put = count-other sameRow same-rows p o n was now rs
