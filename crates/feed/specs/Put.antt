@@ -9,9 +9,9 @@ use lib.Dec.{eqb, leb, ltb}
 use lib.ListN.{length, getD, set, List·getD-eq-default}
 use lib.Seq.{getD-set-same, getD-set-other, set-out}
 use borrow.Author.Tests.{eq-eqb, eqb-true, eqb-false, ltb-true, ltb-false}
-use Rattle.laws.specs.Change.{count-other, count-same, keep-other, put, put-place, put-the, the-other, the-same}
+use Rattle.laws.specs.Change.{count-alike, keep-other, put, put-place, put-the, the-other, the-same}
 use Rattle.laws.specs.Digits.{Digit, digits-equal, head-equal}
-use Rattle.laws.specs.Place.{every-at}
+use Rattle.laws.specs.Place.{every-at, the-none, the-passes}
 use Rattle.laws.specs.Search.{count, keep, place, seek}
 use Rattle.laws.specs.Tests.{one-truth}
 use Rattle.record.specs.Codes.{kindFree}
@@ -115,6 +115,15 @@ pub put-found : (k : Key) (n : Row) (rs : List Row) → there k rs ≡ true
 unfolding there found
 put-found k n rs e = put-the sameRow same-rows row-itself (hasKey k) nothing n rs e
 
+-- the row that is found has the key; where it is not there, it is nothing
+pub found-has : (k : Key) (rs : List Row) → there k rs ≡ true → hasKey k (found k rs) ≡ true
+unfolding there found
+found-has k rs e = the-passes (hasKey k) nothing rs e
+
+pub found-none : (k : Key) (rs : List Row) → there k rs ≡ false → found k rs ≡ nothing
+unfolding there found
+found-none k rs e = the-none (hasKey k) nothing rs e
+
 -- ---- a row is added in the lowest free place
 -- no row of the kind of free rows is anything but zeros
 abbrev pub Clean : List Row → Type 0
@@ -176,27 +185,27 @@ clean-set rs i n c f j k = go (eqb j i) (ltb i (length rs)) refl refl
 
 -- ---- what is found, kept and counted after a put
 module _ (o n : Row) (rs : List Row) where
-  module _ (k : Key) (was : hasKey k o ≡ false) (now : hasKey k n ≡ false) where
-    pub found-other : found k (put sameRow o n rs) ≡ found k rs
-    unfolding found
-    found-other = the-other sameRow same-rows (hasKey k) o n was now nothing rs
+  pub there-alike : (k : Key) → hasKey k n ≡ hasKey k o → there k (put sameRow o n rs) ≡ there k rs
+  unfolding there
+  there-alike k e = ap (leb 1) (count-alike sameRow same-rows (hasKey k) o n e rs)
 
-    pub there-other : there k (put sameRow o n rs) ≡ there k rs
-    unfolding there
-    there-other = ap (leb 1) (count-other sameRow same-rows (hasKey k) o n was now rs)
+  pub found-other : (k : Key) → hasKey k o ≡ false → hasKey k n ≡ false → found k (put sameRow o n rs) ≡ found k rs
+  unfolding found
+  found-other k was now = the-other sameRow same-rows (hasKey k) o n was now nothing rs
 
-  module _ (k : Key) (e : there k rs ≡ true) (was : o ≡ found k rs) (now : hasKey k n ≡ true) where
-    pub found-same : found k (put sameRow o n rs) ≡ n
-    unfolding found there
-    found-same = rw was (the-same sameRow same-rows row-itself (hasKey k) nothing n now rs e)
+  pub there-other : (k : Key) → hasKey k o ≡ false → hasKey k n ≡ false → there k (put sameRow o n rs) ≡ there k rs
+  there-other k was now = there-alike k (now ∙ sym was)
 
-    pub there-same : there k (put sameRow o n rs) ≡ true
-    unfolding found there
-    there-same = rw was (ap (leb 1) (count-same sameRow same-rows row-itself (hasKey k) nothing n now rs e) ∙ e)
+  pub found-same : (k : Key) → there k rs ≡ true → o ≡ found k rs → hasKey k n ≡ true → found k (put sameRow o n rs) ≡ n
+  unfolding found there
+  found-same k e was now = rw was (the-same sameRow same-rows row-itself (hasKey k) nothing n now rs e)
 
-  module _ (p : Row → Bool) (was : p o ≡ false) (now : p n ≡ false) where
-    pub keep-put : keep p (put sameRow o n rs) ≡ keep p rs
-    keep-put = keep-other sameRow same-rows p o n was now rs
+  pub there-same : (k : Key) → there k rs ≡ true → o ≡ found k rs → hasKey k n ≡ true
+      → there k (put sameRow o n rs) ≡ true
+  there-same k e was now = there-alike k (now ∙ sym (ap (hasKey k) was ∙ found-has k rs e)) ∙ e
 
-    pub count-put : count p (put sameRow o n rs) ≡ count p rs
-    count-put = count-other sameRow same-rows p o n was now rs
+  pub keep-put : (p : Row → Bool) → p o ≡ false → p n ≡ false → keep p (put sameRow o n rs) ≡ keep p rs
+  keep-put p was now = keep-other sameRow same-rows p o n was now rs
+
+  pub count-put : (p : Row → Bool) → p n ≡ p o → count p (put sameRow o n rs) ≡ count p rs
+  count-put p e = count-alike sameRow same-rows p o n e rs

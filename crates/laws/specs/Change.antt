@@ -57,16 +57,6 @@ module _ {A : Type 0} (same : A → A → Bool) (tells : (a b : A) → same a b 
         go ih true e = rw (e, now, passed x e)
         go ih false e = rw (e, ih)
 
-    pub count-other : (l : List A) → count p (put same o n l) ≡ count p l
-    unfolding count total put
-    count-other [] = refl
-    count-other (x ∷ l) = go (count-other l) (same o x) refl
-      where
-        go : count p (put same o n l) ≡ count p l → (t : Bool) → same o x ≡ t
-            → count p (put same o n (x ∷ l)) ≡ count p (x ∷ l)
-        go ih true e = rw (e, now, passed x e)
-        go ih false e = rw (e, ih)
-
     pub the-other : (d : A) (l : List A) → the p d (put same o n l) ≡ the p d l
     unfolding the put
     the-other d [] = refl
@@ -75,6 +65,18 @@ module _ {A : Type 0} (same : A → A → Bool) (tells : (a b : A) → same a b 
         go : the p d (put same o n l) ≡ the p d l → (t : Bool) → same o x ≡ t
             → the p d (put same o n (x ∷ l)) ≡ the p d (x ∷ l)
         go ih true e = rw (e, now, passed x e)
+        go ih false e = rw (e, ih)
+
+  -- one that passes as the other did
+  module _ (p : A → Bool) (o n : A) (alike : p n ≡ p o) where
+    pub count-alike : (l : List A) → count p (put same o n l) ≡ count p l
+    unfolding count total put
+    count-alike [] = refl
+    count-alike (x ∷ l) = go (count-alike l) (same o x) refl
+      where
+        go : count p (put same o n l) ≡ count p l → (t : Bool) → same o x ≡ t
+            → count p (put same o n (x ∷ l)) ≡ count p (x ∷ l)
+        go ih true e = let q : p n ≡ p x = alike ∙ ap p (tells o x e) in rw (e, q)
         go ih false e = rw (e, ih)
 
   -- one in the place of the first that passes
@@ -110,13 +112,3 @@ module _ {A : Type 0} (same : A → A → Bool) (tells : (a b : A) → same a b 
             → the p d (put same (the p d (x ∷ l)) n (x ∷ l)) ≡ n
         go ih true e = rw (e, itself x, now)
         go ih false e = let k = left itself p d n x l h e in rw (e, later itself p d n x l k e, e) (ih k)
-
-    pub count-same : (l : List A) → leb 1 (count p l) ≡ true → count p (put same (the p d l) n l) ≡ count p l
-    unfolding put the count total
-    count-same [] h = refl
-    count-same (x ∷ l) h = go (count-same l) (p x) refl
-      where
-        go : (leb 1 (count p l) ≡ true → count p (put same (the p d l) n l) ≡ count p l) → (t : Bool) → p x ≡ t
-            → count p (put same (the p d (x ∷ l)) n (x ∷ l)) ≡ count p (x ∷ l)
-        go ih true e = rw (e, itself x, now)
-        go ih false e = let k = left itself p d n x l h e in rw (e, later itself p d n x l k e, e, ih k)

@@ -5,6 +5,7 @@ pub mod Lists
 pub mod Search
 pub mod Walk
 pub mod Place
+pub mod Keep
 pub mod Chain
 pub mod Sort
 pub mod Change

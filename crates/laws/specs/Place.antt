@@ -43,6 +43,15 @@ module _ {A : Type 0} where
       go ih true e = rw e e
       go ih false e = rw e (ih (rw (e, zero-add (count p l)) at h))
 
+  pub the-none : (p : A → Bool) (d : A) (l : List A) → leb 1 (count p l) ≡ false → the p d l ≡ d
+  unfolding the count total
+  the-none p d [] h = refl
+  the-none p d (x ∷ l) h = go (the-none p d l) (p x) refl
+    where
+      go : (leb 1 (count p l) ≡ false → the p d l ≡ d) → (t : Bool) → p x ≡ t → the p d (x ∷ l) ≡ d
+      go ih true e = absurd (false≢true (sym (rw e at h) ∙ le-leb 1 (1 + count p l) (omega arith)))
+      go ih false e = rw e (ih (rw (e, zero-add (count p l)) at h))
+
   -- some pass where the place is not the end
   pub some-place : (p : A → Bool) (l : List A) → leb 1 (count p l) ≡ ltb (place p l) (length l)
   unfolding count total seek
