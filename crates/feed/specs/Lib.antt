@@ -1,3 +1,5 @@
 pub mod Put
 pub mod Steps
 pub mod Volumes
+pub mod Pending
+pub mod Due
