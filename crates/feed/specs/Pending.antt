@@ -1,5 +1,5 @@
--- Which trades are pending after the steps of an entry: those that were, but for the ones that it submits. Assumes
--- nothing.
+-- The trades after the steps of an entry: they are all there, and those are pending that were, but for the ones that
+-- it submits. Assumes nothing.
 use mathlib.Core.Path.{_≡_, refl, sym, ap, _∙_}
 use mathlib.Core.Bool.{Bool, true, false, not, _&&_}
 use mathlib.Core.List.{List, [], _∷_}
@@ -9,29 +9,34 @@ use native.Mathlib.Omega.{arith}
 use lib.Dec.{eqb}
 use borrow.Author.Tests.{eqb-true}
 use Rattle.laws.specs.Change.{put}
-use Rattle.laws.specs.Search.{every, run}
+use Rattle.laws.specs.Search.{every, keep, run}
 use Rattle.laws.specs.Tests.{and-assoc, and-false, and-right, and-true}
 use Rattle.record.specs.Codes.{kindTrade, kindTradeHistory, pending, submitted}
 use Rattle.record.specs.declared.row.Row.{Row}
 use Rattle.rules.specs.Ranges.{id, kind, status, when}
 use Rattle.model.specs.Edit.{_≔_, changed, new}
-use Rattle.model.specs.Feed.{submit, traded}
+use Rattle.model.specs.Feed.{Fed, applied, submit, submits, traded}
 use Rattle.model.specs.Names.{aSecurity, aTrade}
 use Rattle.model.specs.Rows.{found, hasKey, is, nothing, sameRow, there}
 use Rattle.tables.specs.Names.{by-id}
-use Rattle.feed.specs.Put.{found-has, found-none, found-other, found-same, there-alike}
-use Rattle.feed.specs.Steps.{found-either, found-kept, key-of, traded-keeps}
+use Rattle.feed.specs.Put.{found-has, found-none, found-other, found-same, there-alike, there-other}
+use Rattle.feed.specs.Steps.{found-either, found-kept, key-of, there-kept, traded-keeps}
 
 abbrev pub pends : List Row → ℕ → Bool
 pends rs i = eqb (found (aTrade i) rs .status) pending
+
+traded-found : (e : Row) (y : ℕ) (rs : List Row) (i : ℕ)
+    → keep (hasKey (aTrade i)) (put sameRow (found (aSecurity y) rs) (traded e (found (aSecurity y) rs)) rs)
+    ≡ keep (hasKey (aTrade i)) rs
+traded-found e y rs i =
+    traded-keeps kindTrade (hasKey (aTrade i)) (key-of (aTrade i)) (λ q. omega arith) e y rs (λ q. omega arith)
 
 pub pends-traded : (e : Row) (y : ℕ) (rs : List Row) (i : ℕ)
     → pends (put sameRow (found (aSecurity y) rs) (traded e (found (aSecurity y) rs)) rs) i ≡ pends rs i
 pends-traded e y rs i =
     let s = found (aSecurity y) rs in
     ap (λ (r : Row). eqb (r .status) pending)
-    (found-kept (aTrade i) (put sameRow s (traded e s) rs) rs
-    (traded-keeps kindTrade (hasKey (aTrade i)) (key-of (aTrade i)) (λ q. omega arith) e y rs (λ q. omega arith)))
+    (found-kept (aTrade i) (put sameRow s (traded e s) rs) rs (traded-found e y rs i))
 
 trade-key : (i : ℕ) (r : Row) → hasKey (aTrade i) r ≡ (is kindTrade r && eqb (r .id) i)
 trade-key i r = by-id kindTrade refl i r
@@ -68,6 +73,11 @@ module _ (e : Row) (rs : List Row) (r : Row) where
       (λ h. ap (hasKey (aTrade i)) h ∙ trade-key i nothing)
       (found-either (aTrade (r .id)) rs)
 
+  there-submit : (i : ℕ) → there (aTrade i) (submit e rs r) ≡ there (aTrade i) rs
+  there-submit i =
+      there-alike was becomes between (aTrade i) (same-key i)
+      ∙ there-other nothing history rs (aTrade i) (trade-key i nothing) (trade-key i history)
+
   -- which leaves it pending no longer, and every other as it is
   gone : pends (submit e rs r) (r .id) ≡ false
   gone = go (there (aTrade (r .id)) between) refl
@@ -95,6 +105,11 @@ module _ (e : Row) (rs : List Row) (r : Row) where
           ∙ rw h (sym (and-true (pends rs i)))
 
 -- ---- all that an entry submits
+there-submits : (e : Row) (rs ts : List Row) (i : ℕ) → there (aTrade i) (run (submit e) rs ts) ≡ there (aTrade i) rs
+unfolding run
+there-submits e rs [] i = refl
+there-submits e rs (t ∷ ts) i = there-submits e (submit e rs t) ts i ∙ there-submit e rs t i
+
 pub pends-submits : (e : Row) (rs ts : List Row) (i : ℕ)
     → pends (run (submit e) rs ts) i ≡ (pends rs i && every (λ (t : Row). not (eqb (t .id) i)) ts)
 unfolding run every
@@ -103,3 +118,18 @@ pends-submits e rs (t ∷ ts) i =
     pends-submits e (submit e rs t) ts i
     ∙ rw (pends-submit e rs t i)
     (sym (and-assoc (pends rs i) (not (eqb (t .id) i)) (every (λ (t : Row). not (eqb (t .id) i)) ts)))
+
+-- ---- all entries
+pub trade-next : (i : ℕ) (f : Fed) (e : Row) → there (aTrade i) (applied f e .rows) ≡ there (aTrade i) (f .rows)
+unfolding applied
+trade-next i f e =
+    let s = found (aSecurity (e .symbol)) (f .rows) in
+    let rs = put sameRow s (traded e s) (f .rows) in
+    there-submits e rs (submits rs e) i
+    ∙ there-kept (aTrade i) rs (f .rows) (traded-found e (e .symbol) (f .rows) i)
+
+pub trade-after : (i : ℕ) (f : Fed) (es : List Row)
+    → there (aTrade i) (run applied f es .rows) ≡ there (aTrade i) (f .rows)
+unfolding run
+trade-after i f [] = refl
+trade-after i f (e ∷ es) = trade-after i (applied f e) es ∙ trade-next i f e
