@@ -196,7 +196,8 @@ module _ (o n : Row) (rs : List Row) where
   pub there-other : (k : Key) → hasKey k o ≡ false → hasKey k n ≡ false → there k (put sameRow o n rs) ≡ there k rs
   there-other k was now = there-alike k (now ∙ sym was)
 
-  pub found-same : (k : Key) → there k rs ≡ true → o ≡ found k rs → hasKey k n ≡ true → found k (put sameRow o n rs) ≡ n
+  pub found-same : (k : Key) → there k rs ≡ true → o ≡ found k rs → hasKey k n ≡ true
+      → found k (put sameRow o n rs) ≡ n
   unfolding found there
   found-same k e was now = rw was (the-same sameRow same-rows row-itself (hasKey k) nothing n now rs e)
 

@@ -1,7 +1,7 @@
 -- The volumes after a feed, told from the book at entry: each entry adds its shares to the volume of its symbol and
 -- moves no other. Assumes nothing.
 use mathlib.Core.Path.{_≡_, refl, sym, ap, _∙_}
-use mathlib.Core.Bool.{Bool, true, false, cond, _&&_}
+use mathlib.Core.Bool.{Bool, true, false, cond}
 use mathlib.Core.List.{List, [], _∷_}
 use mathlib.Core.Logic.{⊎-elim}
 use Prim.Native.Nat.{ℕ, _+_}
@@ -12,7 +12,7 @@ use borrow.Author.Tests.{eqb-true}
 use Rattle.laws.specs.Change.{put}
 use Rattle.laws.specs.Keep.{every-on}
 use Rattle.laws.specs.Search.{every, keep, run, total}
-use Rattle.laws.specs.Tests.{and-right}
+use Rattle.laws.specs.Tests.{and-false, and-right}
 use Rattle.record.specs.Codes.{kindSecurity}
 use Rattle.record.specs.declared.row.Row.{Row}
 use Rattle.rules.specs.Ranges.{volume}
@@ -57,18 +57,16 @@ module _ (f : Fed) (e : Row) where
       eqb-true (was .symbol) (e .symbol)
       (and-right (is kindSecurity was) (eqb (was .symbol) (e .symbol)) (sym (by-symbol (e .symbol) was) ∙ h))
       in
-      by-symbol s was ∙ rw (q, n) (none (is kindSecurity was)))
+      by-symbol s was ∙ rw (q, n) (and-false (is kindSecurity was)))
       (λ h. ap (hasKey (aSecurity s)) h ∙ by-symbol s nothing)
       (found-either (aSecurity (e .symbol)) (f .rows))
-    where
-      none : (a : Bool) → (a && false) ≡ false
-      none true = refl
-      none false = refl
 
   pub volume-next : (s : ℕ) → there (aSecurity s) (f .rows) ≡ true
       → found (aSecurity s) (applied f e .rows) .m1
       ≡ found (aSecurity s) (f .rows) .m1 + cond (eqb (e .symbol) s) (e .n2) 0
-  volume-next s h = ap (λ (r : Row). r .m1) (found-kept (aSecurity s) (applied f e .rows) between (kept s)) ∙ go (eqb (e .symbol) s) refl
+  volume-next s h =
+      ap (λ (r : Row). r .m1) (found-kept (aSecurity s) (applied f e .rows) between (kept s))
+      ∙ go (eqb (e .symbol) s) refl
     where
       here : e .symbol ≡ s → found (aSecurity s) between ≡ traded e was
       here q =

@@ -7,7 +7,7 @@ use Prim.Native.Nat.{_+_, _≤_}
 use native.Mathlib.Nat.{zero-add}
 use native.Mathlib.Omega.{arith}
 use lib.Dec.{leb}
-use Rattle.laws.specs.Search.{count, every, keep, the, total}
+use Rattle.laws.specs.Search.{bit, count, every, keep, the, total}
 use Rattle.laws.specs.Tests.{and-left, and-right}
 
 module _ {A : Type 0} where
@@ -130,6 +130,17 @@ module _ {A : Type 0} where
   unfolding count total
   count-on p q [] h = refl
   count-on p q (x ∷ l) h = rw (h x (List·Memᴰ·head refl), count-on p q l (λ y m. h y (List·Memᴰ·tail m)))
+
+  pub count-none : (p : A → Bool) (l : List A) → ((x : A) → p x ≡ false) → count p l ≡ 0
+  unfolding count total
+  count-none p [] h = refl
+  count-none p (x ∷ l) h = rw (h x, count-none p l h)
+
+  pub count-split : (p q s : A → Bool) (l : List A) → ((x : A) → bit (p x) + bit (q x) ≡ bit (s x))
+      → count p l + count q l ≡ count s l
+  unfolding count total
+  count-split p q s [] h = refl
+  count-split p q s (x ∷ l) h = let a = h x in let ih = count-split p q s l h in omega arith
 
   pub map-on : (f g : A → A) (l : List A) → ((x : A) → List·Memᴰ x l → f x ≡ g x) → map f l ≡ map g l
   map-on f g [] h = refl
