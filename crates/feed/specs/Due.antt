@@ -5,7 +5,7 @@ use mathlib.Core.Path.{_≡_, refl, sym, ap, subst, _∙_}
 use mathlib.Core.Bool.{Bool, true, false, cond, not, _&&_, _||_, false≢true}
 use mathlib.Core.List.{List, [], _∷_, map, List·Memᴰ, List·Memᴰ·head}
 use mathlib.Core.Logic.{⊎-elim}
-use Prim.Native.Nat.{ℕ, suc, _+_, _≤_}
+use Prim.Native.Nat.{ℕ, _+_, _≤_}
 use native.Mathlib.Nat.{add-zero, zero-add}
 use native.Mathlib.Omega.{arith}
 use lib.Dec.{eqb}
@@ -14,8 +14,8 @@ use borrow.Author.Tests.{eq-eqb, eqb-true, eqb-false, le-leb}
 use Rattle.laws.specs.Change.{put}
 use Rattle.laws.specs.Keep.{count-has, count-keep, count-none, count-on, count-one, count-split, every-keep}
 use Rattle.laws.specs.Keep.{keep-from, keep-has, keep-keep, map-on, the-has}
-use Rattle.laws.specs.Search.{bit, count, every, keep, means-every, run, total}
-use Rattle.laws.specs.Sort.{insert, sort}
+use Rattle.laws.specs.Search.{bit, length-keep, count, every, keep, means-every, run}
+use Rattle.laws.specs.Sort.{every-sort, length-sort, sort}
 use Rattle.laws.specs.Tests.{and-both, and-false, and-left, and-right, one-truth, or-assoc, or-false, or-true}
 use Rattle.record.specs.Codes.{kindRequest, kindTrade, pending}
 use Rattle.record.specs.Key.{keyOf}
@@ -27,66 +27,10 @@ use Rattle.model.specs.Rows.{found, hasKey, is, nothing, sameRow, there}
 use Rattle.model.specs.Sound.{sound}
 use Rattle.model.specs.SoundMeans.{SoundBook, means-sound}
 use Rattle.tables.specs.Names.{by-id}
+use Rattle.feed.specs.Hits.{due, hitBy, hits}
 use Rattle.feed.specs.Pending.{pends, pends-submits, pends-traded}
 use Rattle.feed.specs.Put.{found-has}
 use Rattle.feed.specs.Steps.{kind-of, submits-keep, traded-keeps}
-
--- an entry is on the request's symbol and reaches its bid
-abbrev pub hits : Row → Row → Bool
-hits e r = eqb (r .symbol) (e .symbol) && reached e r
-
-unfoldable pub hitBy : List Row → Row → Bool
-hitBy [] r = false
-hitBy (e ∷ es) r = hits e r || hitBy es r
-
-abbrev pub due : List Row → Row → Bool
-due es r = is kindRequest r && hitBy es r
-
--- ---- a sorted list
-and-swap : (a b c : Bool) → (a && (b && c)) ≡ (b && (a && c))
-and-swap true b c = refl
-and-swap false true c = refl
-and-swap false false c = refl
-
-module _ {A : Type 0} (before : A → A → Bool) where
-  length-insert : (x : A) (l : List A) → length (insert before x l) ≡ suc (length l)
-  unfolding insert
-  length-insert x [] = refl
-  length-insert x (y ∷ l) = go (length-insert x l) (before x y) refl
-    where
-      go : length (insert before x l) ≡ suc (length l) → (t : Bool) → before x y ≡ t
-          → length (insert before x (y ∷ l)) ≡ suc (suc (length l))
-      go ih true e = rw e
-      go ih false e = rw (e, ih)
-
-  length-sort : (l : List A) → length (sort before l) ≡ length l
-  unfolding sort
-  length-sort [] = refl
-  length-sort (x ∷ l) = length-insert x (sort before l) ∙ ap suc (length-sort l)
-
-  every-insert : (p : A → Bool) (x : A) (l : List A) → every p (insert before x l) ≡ (p x && every p l)
-  unfolding insert every
-  every-insert p x [] = refl
-  every-insert p x (y ∷ l) = go (every-insert p x l) (before x y) refl
-    where
-      go : every p (insert before x l) ≡ (p x && every p l) → (t : Bool) → before x y ≡ t
-          → every p (insert before x (y ∷ l)) ≡ (p x && every p (y ∷ l))
-      go ih true e = rw e
-      go ih false e = rw (e, ih) (and-swap (p y) (p x) (every p l))
-
-  every-sort : (p : A → Bool) (l : List A) → every p (sort before l) ≡ every p l
-  unfolding sort every
-  every-sort p [] = refl
-  every-sort p (x ∷ l) = every-insert p x (sort before l) ∙ ap (λ (b : Bool). p x && b) (every-sort p l)
-
-length-keep : {A : Type 0} (p : A → Bool) (l : List A) → length (keep p l) ≡ count p l
-unfolding keep count total
-length-keep p [] = refl
-length-keep p (x ∷ l) = go (length-keep p l) (p x) refl
-  where
-    go : length (keep p l) ≡ count p l → (t : Bool) → p x ≡ t → length (keep p (x ∷ l)) ≡ count p (x ∷ l)
-    go ih true e = rw (e, ih) (omega arith)
-    go ih false e = rw (e, ih, zero-add)
 
 -- ---- the requests of a book, none with the number of another, and d tells those that wait no longer
 abbrev Alone : List Row → Type 0
@@ -108,7 +52,7 @@ four false b c d = refl
 module _ (ks : List Row) (d : Row → Bool) where
   -- the requests that an entry submits, among all requests
   submits-are : (rs : List Row) (e : Row) → Waiting ks d rs → submits rs e ≡ sort lower (keep (chosen rs e) ks)
-  unfolding submits
+  unfolding submits hits
   submits-are rs e w =
       let q : (r : Row) → triggered rs e r ≡ (is kindRequest r && chosen rs e r) =
       λ r. four (is kindRequest r) (pends rs (r .id)) (eqb (r .symbol) (e .symbol)) (reached e r)

@@ -1,6 +1,7 @@
+pub mod Apply
+pub mod Due
+pub mod Hits
+pub mod Pending
 pub mod Put
 pub mod Steps
 pub mod Volumes
-pub mod Pending
-pub mod Due
-pub mod Hits

@@ -3,15 +3,14 @@
 -- one equation: the next place from here on with this number, the list's end where there is none. Assumes nothing.
 use mathlib.Core.Path.{_≡_, refl, sym, _∙_}
 use mathlib.Core.Bool.{Bool, true, false}
-use mathlib.Core.List.{List, [], _∷_, map}
-use Prim.Native.Nat.{ℕ, zero, suc, _+_, _≤_, _<_}
+use mathlib.Core.List.{List, map}
+use Prim.Native.Nat.{ℕ, _+_, _≤_, _<_}
 use native.Mathlib.Omega.{arith}
-use lib.Dec.{eqb, ltb}
+use lib.Dec.{eqb}
 use lib.ListN.{length, drop, getD, set, length-set, List·getD-map}
-use lib.Seq.{getD-set-same, getD-set-other, map-set-same, set-out}
-use borrow.Author.Tests.{eq-eqb, ne-eqb, eqb-true, eqb-false, ltb-true, ltb-false}
-use Rattle.laws.specs.Search.{seek}
-use Rattle.laws.specs.Walk.{seek-end, seek-here, seek-later, from}
+use lib.Seq.{getD-set-same, getD-set-other}
+use borrow.Author.Tests.{eq-eqb, ne-eqb, eqb-true, eqb-false}
+use Rattle.laws.specs.Walk.{drop-map, from, map-alike, seek-end, seek-here, seek-later, seek-map}
 
 -- the elements of number h
 unfoldable pub numbered : {A : Type 0} → (A → ℕ) → ℕ → A → Bool
@@ -74,39 +73,16 @@ module _ {A : Type 0} (g : A → ℕ) (d : A) (size : ℕ) (l : List A) where
     }
 
 -- ---- a chain knows the elements by their numbers alone
-module _ {A B : Type 0} (g : A → B) where
-  drop-map : (i : ℕ) (l : List A) → drop i (map g l) ≡ map g (drop i l)
-  drop-map zero l = refl
-  drop-map (suc i) [] = refl
-  drop-map (suc i) (x ∷ l) = drop-map i l
-
-  seek-map : (p : B → Bool) (i : ℕ) (l : List A) → seek (λ x. p (g x)) i l ≡ seek p i (map g l)
-  unfolding seek
-  seek-map p i [] = refl
-  seek-map p i (x ∷ l) = go (seek-map p (i + 1) l) (p (g x)) refl
-    where
-      go : seek (λ x. p (g x)) (i + 1) l ≡ seek p (i + 1) (map g l) → (t : Bool) → p (g x) ≡ t
-          → seek (λ x. p (g x)) i (x ∷ l) ≡ seek p i (map g (x ∷ l))
-      go ih true e = rw e
-      go ih false e = rw e ih
-
 module _ {A : Type 0} (g : A → ℕ) (d : A) (size : ℕ) (l : List A) where
   from-numbers : (h i : ℕ) (m : List A) → from (numbered g h) m i ≡ from (λ n. eqb n h) (map g m) i
   unfolding numbered
   from-numbers h i m = seek-map g (λ n. eqb n h) i (drop i m) ∙ rw (drop-map g i m)
 
-  same-numbers : (j : ℕ) (r : A) → (j < length l → g r ≡ g (getD l j d)) → map g (set l j r) ≡ map g l
-  same-numbers j r k = go (ltb j (length l)) refl
-    where
-      go : (t : Bool) → ltb j (length l) ≡ t → map g (set l j r) ≡ map g l
-      go true e = map-set-same g l j r d (k (ltb-true j (length l) e))
-      go false e = rw (set-out l j r (ltb-false j (length l) e))
-
   -- an element may give way to another of its number
   pub chain-put : {t : List ℕ} {i : ℕ} → Chained g d size l t i → (j : ℕ) (r : A)
       → (j < length l → g r ≡ g (getD l j d)) → Chained g d size (set l j r) t i
   chain-put {t} {i} s j r k =
-      let same = same-numbers j r k in
+      let same = map-alike g d l j r k in
       let next : (h c : ℕ) → from (numbered g h) l c ≡ from (numbered g h) (set l j r) c =
       λ h c. from-numbers h c l ∙ rw (← same) (sym (from-numbers h c (set l j r)))
       in

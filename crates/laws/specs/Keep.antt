@@ -7,7 +7,7 @@ use Prim.Native.Nat.{_+_, _≤_}
 use native.Mathlib.Nat.{zero-add}
 use native.Mathlib.Omega.{arith}
 use lib.Dec.{leb}
-use Rattle.laws.specs.Search.{bit, count, every, keep, the, total}
+use Rattle.laws.specs.Search.{bit, count, every, keep, run, the, total}
 use Rattle.laws.specs.Tests.{and-left, and-right}
 
 module _ {A : Type 0} where
@@ -152,3 +152,30 @@ module _ {A : Type 0} where
   every-on s p q [] e h = refl
   every-on s p q (x ∷ l) e h =
       rw (h x (and-left (s x) (every s l) e), every-on s p q l (and-right (s x) (every s l) e) h)
+
+  pub every-alike : (p q : A → Bool) → ((x : A) → p x ≡ q x) → (l : List A) → every p l ≡ every q l
+  unfolding every
+  every-alike p q h [] = refl
+  every-alike p q h (x ∷ l) = rw (h x, every-alike p q h l)
+
+  pub keep-every : (p q : A → Bool) → ((x : A) → p x ≡ true → q x ≡ true) → (l : List A) → every q (keep p l) ≡ true
+  unfolding keep every
+  keep-every p q h [] = refl
+  keep-every p q h (x ∷ l) = go (keep-every p q h l) (p x) refl
+    where
+      go : every q (keep p l) ≡ true → (t : Bool) → p x ≡ t → every q (keep p (x ∷ l)) ≡ true
+      go ih true e = rw (e, h x e, ih)
+      go ih false e = rw (e, ih)
+
+-- ---- a list of what f makes of each
+module _ {A B : Type 0} (f : A → B) where
+  pub every-map : (p : B → Bool) (l : List A) → every p (map f l) ≡ every (λ x. p (f x)) l
+  unfolding every
+  every-map p [] = refl
+  every-map p (x ∷ l) = rw (every-map p l)
+
+  pub run-map : {S : Type 0} (step : S → B → S) (s : S) (l : List A)
+      → run step s (map f l) ≡ run (λ t x. step t (f x)) s l
+  unfolding run
+  run-map step s [] = refl
+  run-map step s (x ∷ l) = run-map step (step s (f x)) l

@@ -2,13 +2,15 @@
 -- not concern it. Assumes nothing.
 use mathlib.Core.Path.{_≡_, refl, sym, ap, _∙_}
 use mathlib.Core.Bool.{Bool, true, false, false≢true}
-use mathlib.Core.List.{List, [], _∷_}
-use Prim.Native.Nat.{ℕ, suc, _+_, _≤_, _<_}
+use mathlib.Core.List.{List, [], _∷_, map}
+use Prim.Native.Nat.{ℕ, zero, suc, _+_, _≤_, _<_}
 use native.Mathlib.Numerals.{add-one}
 use native.Mathlib.Nat.{add-zero}
 use native.Mathlib.Omega.{arith}
-use lib.ListN.{length, drop, getD, drop-of-length-le, length-drop}
-use lib.Seq.{drop-cons, drop-drop, getD-drop}
+use lib.Dec.{ltb}
+use lib.ListN.{length, drop, getD, set, drop-of-length-le, length-drop}
+use lib.Seq.{drop-cons, drop-drop, getD-drop, map-set-same, set-out}
+use borrow.Author.Tests.{ltb-true, ltb-false}
 use Rattle.laws.specs.Search.{seek}
 
 module _ {A : Type 0} where
@@ -108,3 +110,37 @@ module _ {A : Type 0} where
     pub from-passes : {M : Type 0} (F : List A → M) → ((x : A) (m : List A) → q x ≡ false → F (x ∷ m) ≡ F m)
         → F (drop i l) ≡ F (drop (from q l i) l)
     from-passes F none = passed F q l none (drop i l) i refl
+
+-- ---- what a walk sees of each element
+module _ {A B : Type 0} (g : A → B) where
+  pub drop-map : (i : ℕ) (l : List A) → drop i (map g l) ≡ map g (drop i l)
+  drop-map zero l = refl
+  drop-map (suc i) [] = refl
+  drop-map (suc i) (x ∷ l) = drop-map i l
+
+  pub seek-map : (p : B → Bool) (i : ℕ) (l : List A) → seek (λ x. p (g x)) i l ≡ seek p i (map g l)
+  unfolding seek
+  seek-map p i [] = refl
+  seek-map p i (x ∷ l) = go (seek-map p (i + 1) l) (p (g x)) refl
+    where
+      go : seek (λ x. p (g x)) (i + 1) l ≡ seek p (i + 1) (map g l) → (t : Bool) → p (g x) ≡ t
+          → seek (λ x. p (g x)) i (x ∷ l) ≡ seek p i (map g (x ∷ l))
+      go ih true e = rw e
+      go ih false e = rw e ih
+
+  -- where it sees the same of another, that may be put
+  pub map-alike : (d : A) (l : List A) (j : ℕ) (r : A) → (j < length l → g r ≡ g (getD l j d))
+      → map g (set l j r) ≡ map g l
+  map-alike d l j r k = go (ltb j (length l)) refl
+    where
+      go : (t : Bool) → ltb j (length l) ≡ t → map g (set l j r) ≡ map g l
+      go true e = map-set-same g l j r d (k (ltb-true j (length l) e))
+      go false e = rw (set-out l j r (ltb-false j (length l) e))
+
+pub from-alike : {A : Type 0} (q : A → Bool) (d : A) (l : List A) (j : ℕ) (r : A)
+    → (j < length l → q r ≡ q (getD l j d)) → (i : ℕ) → from q (set l j r) i ≡ from q l i
+from-alike q d l j r h i =
+    let truth : (m : List _) → from q m i ≡ seek (λ t. t) i (drop i (map q m)) =
+    λ m. seek-map q (λ t. t) i (drop i m) ∙ rw (drop-map q i m)
+    in
+    truth (set l j r) ∙ rw (map-alike q d l j r h) (sym (truth l))

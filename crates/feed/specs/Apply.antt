@@ -1,0 +1,429 @@
+-- What the functions that apply a feed keep while they change the book: the table finds its trades and securities, free
+-- rows are zeros, and the search for the next free place may begin where the last one ended. Assumes nothing.
+use mathlib.Core.Path.{_≡_, refl, sym, ap, _∙_}
+use mathlib.Core.Bool.{Bool, true, false, cond, false≢true, _&&_}
+use mathlib.Core.List.{List, [], _∷_, map}
+use Prim.Native.Nat.{ℕ, suc, _+_, _-_, _/_, _≤_, _<_}
+use native.Mathlib.Nat.{add-assoc}
+use native.Mathlib.Omega.{arith}
+use lib.Dec.{eqb, leb, ltb}
+use lib.ListN.{length, drop, getD, set}
+use borrow.Author.Tests.{eq-eqb, eqb-true, lt-ltb, le-ltb, ltb-true, ltb-false, leb-true, ne-eqb}
+use Rattle.laws.specs.Change.{put}
+use Rattle.laws.specs.Keep.{every-alike, every-map, every-on, keep-every, run-map}
+use Rattle.laws.specs.Place.{seek-suc}
+use Rattle.laws.specs.Search.{every, keep, place, run, seek, total}
+use Rattle.laws.specs.Sort.{every-sort, insert, sort, sort-map}
+use Rattle.laws.specs.Tests.{and-left, and-right}
+use Rattle.laws.specs.Walk.{from-alike, from-holds, left-next, left-none}
+use Rattle.record.specs.Codes.{kindFree, kindRequest, kindSecurity, kindTrade, kindTradeHistory, pending, submitted}
+use Rattle.record.specs.declared.row.Row.{Row}
+use Rattle.rules.specs.Ranges.{id, kind, status, volume, when}
+use Rattle.model.specs.Edit.{_≔_, changed, new}
+use Rattle.model.specs.Feed.{Fed, applied, lower, reached, submits, traded, triggered}
+use Rattle.model.specs.Names.{aSecurity, aTrade}
+use Rattle.model.specs.Sound.{s1}
+use Rattle.model.specs.Rows.{found, hasKey, is, nothing, rows, sameRow, there}
+use Rattle.queue.specs.Queue.{Mark, markAt, queued, queued-last, sooner}
+use Rattle.shelf.specs.Rows.{after, freeFrom, length-rows, rowAt}
+use Rattle.tables.specs.Bucket.{steady-none, steady-security, steady-trade, steadyBucket}
+use Rattle.tables.specs.Names.{by-id, by-symbol}
+use Rattle.tables.specs.Table.{Indexed, key-row, table-put}
+use Rattle.feed.specs.Put.{Clean, clean-fit, clean-set, found-has, found-none, found-other, put-found, put-free}
+use Rattle.feed.specs.Put.{there-alike, there-other}
+use Rattle.feed.specs.Volumes.{sharesFor, there-next, volume-next}
+
+-- ---- the book as the next step may take it
+pub record Ready (b steady : List ℕ) (from : ℕ) : Type 0 where
+  pub indexed : Indexed steadyBucket b steady 0
+  pub clean : Clean (rows b)
+  pub lowest : freeFrom (rows b) from ≡ freeFrom (rows b) 0
+
+abbrev pub Keeps : List ℕ → List ℕ → List ℕ → Type 0
+Keeps b b′ steady = (from : ℕ) → Ready b steady from → Ready b′ steady from
+
+-- after the lowest free place is filled the search goes on behind it
+lowest-next : (n : Row) → is kindFree n ≡ false → (rs : List Row)
+    → freeFrom (set rs (freeFrom rs 0) n) (after rs (freeFrom rs 0)) ≡ freeFrom (set rs (freeFrom rs 0) n) 0
+unfolding seek after
+lowest-next n e [] = refl
+lowest-next n e (x ∷ l) = go (lowest-next n e l) (is kindFree x) refl
+  where
+    p : ℕ
+    p = freeFrom l 0
+
+    up : (t : Bool) → ltb p (length l) ≡ t
+        → cond (ltb (suc p) (suc (length l))) (suc p + 1) (suc p) ≡ suc (cond (ltb p (length l)) (p + 1) p)
+    up true h = rw (lt-ltb (suc p) (suc (length l)) (omega (arith, ltb-true p (length l) h)), h) (omega arith)
+    up false h = rw (le-ltb (suc p) (suc (length l)) (omega (arith, ltb-false p (length l) h)), h)
+
+    go : freeFrom (set l p n) (after l p) ≡ freeFrom (set l p n) 0 → (t : Bool) → is kindFree x ≡ t
+        → freeFrom (set (x ∷ l) (freeFrom (x ∷ l) 0) n) (after (x ∷ l) (freeFrom (x ∷ l) 0))
+        ≡ freeFrom (set (x ∷ l) (freeFrom (x ∷ l) 0) n) 0
+    go ih true h = rw (h, lt-ltb 0 (length (x ∷ l)) (omega arith), e)
+    go ih false h =
+        rw (h, seek-suc (is kindFree) 0 l, up (ltb p (length l)) refl, h, seek-suc (is kindFree) 0 (set l p n))
+        (seek-suc (is kindFree) (after l p) (drop (after l p) (set l p n)) ∙ ap suc ih)
+
+-- ---- a row that is not free gives way to one of its bucket
+module _ {b steady : List ℕ} {from : ℕ} (s : Ready b steady from) where
+  ready-put : (b′ : List ℕ) (j : ℕ) (r : Row) → length b′ ≡ length b → rows b′ ≡ set (rows b) j r
+      → steadyBucket r ≡ steadyBucket (rowAt b j) → (r .kind ≡ kindFree → ⊥) → (rowAt b j .kind ≡ kindFree → ⊥)
+      → Ready b′ steady from
+  ready-put b′ j r l e g n o =
+      let alike = from-alike (is kindFree) nothing (rows b) j r (λ h. ne-eqb (r .kind) kindFree n ∙ sym (ne-eqb (rowAt b j .kind) kindFree o)) in
+      record {
+        indexed = table-put (s .indexed) b′ j r l e (λ h. g);
+        clean = rw e (clean-set (rows b) j r (s .clean) n);
+        lowest = rw e (alike from ∙ s .lowest ∙ sym (alike 0));
+      }
+
+pub ready-start : (b steady : List ℕ) → Indexed steadyBucket b steady 0 → s1 (rows b) ≡ true → Ready b steady 0
+ready-start b steady i e = record { indexed = i; clean = clean-fit (rows b) e; lowest = refl }
+
+-- ---- an entry's security
+security-kind : (y : ℕ) (r : Row) → hasKey (aSecurity y) r ≡ true → r .kind ≡ kindSecurity
+security-kind y r e =
+    eqb-true (r .kind) kindSecurity (and-left (is kindSecurity r) (eqb (r .symbol) y) (sym (by-symbol y r) ∙ e))
+
+pub quoted : (b b′ steady : List ℕ) (e : Row) {at : ℕ} {s n : Row} → there (aSecurity (e .symbol)) (rows b) ≡ true
+    → at ≡ place (hasKey (aSecurity (e .symbol))) (rows b) → s ≡ rowAt b at → n ≡ traded e s
+    → length b′ ≡ length b → rows b′ ≡ set (rows b) at n
+    → (rows b′
+    ≡ put sameRow (found (aSecurity (e .symbol)) (rows b)) (traded e (found (aSecurity (e .symbol)) (rows b))) (rows b))
+    × Keeps b b′ steady
+quoted b b′ steady e {at} {s} {n} t a r m l q =
+    let k = aSecurity (e .symbol) in
+    let f : s ≡ found k (rows b) = key-row k b a r in
+    let c = security-kind (e .symbol) s (rw f (found-has k (rows b) t)) in
+    let d : rowAt b at .kind ≡ kindSecurity = rw (← r) c in (
+      q ∙ rw (a, m, f) (sym (put-found k (traded e (found k (rows b))) (rows b) t)),
+      λ from g. ready-put g b′ at n l q (rw (m, ← r) (steady-security (traded e s) s c c refl))
+          (λ z. no-kind (sym (ap (λ (x : Row). x .kind) m ∙ c) ∙ z)) (λ z. no-kind (sym d ∙ z)),
+    )
+  where
+    no-kind : kindSecurity ≡ kindFree → ⊥
+    no-kind z = omega arith
+
+-- ---- a trade is submitted
+abbrev pub history : ℕ → ℕ → Row
+history time number = new (kind ≔ kindTradeHistory ∷ status ≔ submitted ∷ id ≔ number ∷ when ≔ time ∷ [])
+
+abbrev pub sent : ℕ → Row → Row
+sent time t = changed t (status ≔ submitted ∷ when ≔ time ∷ [])
+
+unfoldable pub submitMark : List Row → Mark → List Row
+submitMark rs m =
+    let t = found (aTrade (m .1)) rs in
+    put sameRow t (sent (m .0) t) (put sameRow nothing (history (m .0) (m .1)) rs)
+
+trade-key : (i : ℕ) (r : Row) → hasKey (aTrade i) r ≡ (is kindTrade r && eqb (r .id) i)
+trade-key i r = by-id kindTrade refl i r
+
+trade-kind : (i : ℕ) (r : Row) → hasKey (aTrade i) r ≡ true → r .kind ≡ kindTrade
+trade-kind i r e =
+    eqb-true (r .kind) kindTrade (and-left (is kindTrade r) (eqb (r .id) i) (sym (trade-key i r) ∙ e))
+
+-- the history row is in the lowest free place
+added : (b b′ steady : List ℕ) (time number from : ℕ) {h : Row} {next : ℕ} → Ready b steady from → h ≡ history time number
+    → length b′ ≡ length b → next ≡ after (rows b) (freeFrom (rows b) from)
+    → rows b′ ≡ set (rows b) (freeFrom (rows b) from) h
+    → (rows b′ ≡ put sameRow nothing (history time number) (rows b)) × Ready b′ steady next
+added b b′ steady time number from {h} {next} s e l n q =
+    let rs = rows b in
+    let x = history time number in
+    let p = freeFrom rs 0 in
+    let r : rows b′ ≡ set rs p x = q ∙ rw (e, s .lowest) in (
+      r ∙ sym (put-free x rs (s .clean)),
+      record {
+        indexed = table-put (s .indexed) b′ p x l r (λ i. bucket i);
+        clean = rw r (clean-set rs p x (s .clean) (λ z. no-kind z));
+        lowest = rw (r, n, s .lowest) (lowest-next x refl rs);
+      },
+    )
+  where
+    no-kind : kindTradeHistory ≡ kindFree → ⊥
+    no-kind z = omega arith
+
+    bucket : freeFrom (rows b) 0 < length b / 64
+        → steadyBucket (history time number) ≡ steadyBucket (rowAt b (freeFrom (rows b) 0))
+    bucket i =
+        let f = from-holds (is kindFree) (rows b) 0 nothing (rw length-rows i) in
+        steady-none (history time number) refl refl
+        ∙ sym (steady-none (rowAt b (freeFrom (rows b) 0)) (eqb-true _ kindFree f) refl)
+
+module _ (rs : List Row) (m : Mark) where
+  abbrev between : List Row
+  between = put sameRow nothing (history (m .0) (m .1)) rs
+
+  found-between : (i : ℕ) → found (aTrade i) between ≡ found (aTrade i) rs
+  found-between i = found-other nothing (history (m .0) (m .1)) rs (aTrade i) (trade-key i nothing) (trade-key i (history (m .0) (m .1)))
+
+  there-between : (i : ℕ) → there (aTrade i) between ≡ there (aTrade i) rs
+  there-between i = there-other nothing (history (m .0) (m .1)) rs (aTrade i) (trade-key i nothing) (trade-key i (history (m .0) (m .1)))
+
+  -- which leaves every trade there
+  there-submit : (i : ℕ) → there (aTrade i) (submitMark rs m) ≡ there (aTrade i) rs
+  unfolding submitMark
+  there-submit i =
+      let t = found (aTrade (m .1)) rs in
+      there-alike t (sent (m .0) t) between (aTrade i) (trade-key i (sent (m .0) t) ∙ sym (trade-key i t))
+      ∙ there-between i
+
+pub submits-one : (b b₁ b₂ steady : List ℕ) (time number from : ℕ) {h t n : Row} {next at : ℕ} → Ready b steady from
+    → there (aTrade number) (rows b) ≡ true → h ≡ history time number → length b₁ ≡ length b
+    → next ≡ after (rows b) (freeFrom (rows b) from) → rows b₁ ≡ set (rows b) (freeFrom (rows b) from) h
+    → at ≡ place (hasKey (aTrade number)) (rows b₁) → t ≡ rowAt b₁ at → n ≡ sent time t → length b₂ ≡ length b₁
+    → rows b₂ ≡ set (rows b₁) at n
+    → (rows b₂ ≡ submitMark (rows b) (time, number)) × Ready b₂ steady next
+unfolding submitMark
+submits-one b b₁ b₂ steady time number from {h} {t} {n} {next} {at} s w e l₁ x q₁ a r m l₂ q₂ =
+    let one = added b b₁ steady time number from s e l₁ x q₁ in
+    let k = aTrade number in
+    let f : t ≡ found k (rows b₁) = key-row k b₁ a r in
+    let g : found k (rows b₁) ≡ found k (rows b) = ap (found k) (one .0) ∙ found-between (rows b) (time, number) number in
+    let w₁ : there k (rows b₁) ≡ true = ap (there k) (one .0) ∙ there-between (rows b) (time, number) number ∙ w in
+    let c = trade-kind number t (rw f (found-has k (rows b₁) w₁)) in
+    let d : rowAt b₁ at .kind ≡ kindTrade = rw (← r) c in
+    let y : rows b₂ ≡ put sameRow (found k (rows b₁)) (sent time (found k (rows b₁))) (rows b₁) =
+    q₂ ∙ rw (a, m, f) (sym (put-found k (sent time (found k (rows b₁))) (rows b₁) w₁))
+    in (
+      y ∙ rw (g, one .0),
+      ready-put (one .1) b₂ at n l₂ q₂ (rw (m, ← r) (steady-trade (sent time t) t c c refl))
+          (λ z. no-kind (sym (ap (λ (x : Row). x .kind) m ∙ c) ∙ z)) (λ z. no-kind (sym d ∙ z)),
+    )
+  where
+    no-kind : kindTrade ≡ kindFree → ⊥
+    no-kind z = omega arith
+
+-- ---- the trades of a queue
+-- what is left of the queue leads to w
+pub record Submitting (b times ids : List ℕ) (w : List Row) (i : ℕ) : Type 0 where
+  pub all-there : every (λ (m : Mark). there (aTrade (m .1)) (rows b)) (queued times ids i) ≡ true
+  pub same : run submitMark (rows b) (queued times ids i) ≡ w
+
+pub submits-start : (b times ids : List ℕ) (n : ℕ)
+    → every (λ (m : Mark). there (aTrade (m .1)) (rows b)) (queued times ids n) ≡ true
+    → Submitting b times ids (run submitMark (rows b) (queued times ids n)) n
+submits-start b times ids n e = record { all-there = e; same = refl }
+
+module _ {b times ids : List ℕ} {w : List Row} {i : ℕ} (s : Submitting b times ids w i) (h : 0 < i) where
+  abbrev first : Mark
+  first = markAt times ids (i - 1)
+
+  pub submits-need : there (aTrade (getD ids (i - 1) 0)) (rows b) ≡ true
+  unfolding every
+  submits-need =
+      and-left (there (aTrade (first .1)) (rows b))
+      (every (λ (m : Mark). there (aTrade (m .1)) (rows b)) (queued times ids (i - 1)))
+      (rw (queued-last times ids i h) at (s .all-there))
+
+  pub submits-more : (b′ : List ℕ) → rows b′ ≡ submitMark (rows b) (getD times (i - 1) 0, getD ids (i - 1) 0)
+      → Submitting b′ times ids w (i - 1)
+  unfolding every run
+  submits-more b′ e = record {
+    all-there =
+        every-alike (λ (m : Mark). there (aTrade (m .1)) (rows b′)) (λ (m : Mark). there (aTrade (m .1)) (rows b))
+        (λ m. ap (there (aTrade (m .1))) e ∙ there-submit (rows b) first (m .1)) (queued times ids (i - 1))
+        ∙ and-right (there (aTrade (first .1)) (rows b))
+        (every (λ (m : Mark). there (aTrade (m .1)) (rows b)) (queued times ids (i - 1)))
+        (rw (queued-last times ids i h) at (s .all-there));
+    same = rw e (rw (queued-last times ids i h) at (s .same));
+  }
+
+pub submits-end : {b times ids : List ℕ} {w : List Row} {i : ℕ} → Submitting b times ids w i → i ≤ 0 → rows b ≡ w
+unfolding queued run
+submits-end {b} {times} {ids} {w} {i} s h =
+    let e : i ≡ 0 = omega arith in
+    let q : run submitMark (rows b) (queued times ids i) ≡ rows b = rw e in
+    sym q ∙ s .same
+
+-- ---- the requests that an entry submits
+abbrev mark : Row → Row → Mark
+mark e r = (e .time, r .id)
+
+unfoldable pub gathered : List Row → Row → List Mark
+gathered rs e = map (mark e) (submits rs e)
+
+-- what has been seen, from the last row on, is in the queue
+pub record Gathering (b : List ℕ) (e : Row) (times ids : List ℕ) (n i : ℕ) : Type 0 where
+  pub few : n + i ≤ length b / 64
+  pub same : queued times ids n ≡ sort sooner (map (mark e) (keep (triggered (rows b) e) (drop i (rows b))))
+
+pub gather-start : (b : List ℕ) (e : Row) (times ids : List ℕ) → Gathering b e times ids 0 (length b / 64)
+unfolding queued keep sort
+gather-start b e times ids = record {
+  few = omega arith;
+  same = rw (left-none (rows b) (length b / 64) (rw length-rows (omega arith)));
+}
+
+pub gather-more : {b : List ℕ} {e : Row} {times ids : List ℕ} {n i : ℕ} → Gathering b e times ids n i
+    → (times′ ids′ : List ℕ) {r : Row} {m : ℕ} → 0 < i → r ≡ rowAt b (i - 1) → m ≤ n + 1
+    → queued times′ ids′ m
+    ≡ cond (triggered (rows b) e r) (insert sooner (e .time, r .id) (queued times ids n)) (queued times ids n)
+    → Gathering b e times′ ids′ m (i - 1)
+unfolding keep sort
+gather-more {b} {e} {times} {ids} {n} {i} s times′ ids′ {r} {m} h a k q =
+    let f = s .few in
+    let up : i - 1 + 1 ≡ i = omega arith in
+    let x : drop (i - 1) (rows b) ≡ r ∷ drop i (rows b) =
+    left-next (rows b) (i - 1) nothing (rw length-rows (omega arith)) ∙ rw (up, ← a)
+    in
+    let seen = ap (λ (l : List Row). sort sooner (map (mark e) (keep (triggered (rows b) e) l))) (sym x) in
+    record { few = omega arith; same = q ∙ go (triggered (rows b) e r) refl ∙ seen }
+  where
+    p : Row → Bool
+    p = triggered (rows b) e
+
+    go : (t : Bool) → p r ≡ t
+        → cond (p r) (insert sooner (e .time, r .id) (queued times ids n)) (queued times ids n)
+        ≡ sort sooner (map (mark e) (keep p (r ∷ drop i (rows b))))
+    go true z = rw (z, s .same)
+    go false z = rw (z, s .same)
+
+pub gather-all : {b : List ℕ} {e : Row} {times ids : List ℕ} {n i : ℕ} → Gathering b e times ids n i → i ≤ 0
+    → queued times ids n ≡ gathered (rows b) e
+unfolding gathered submits sooner
+gather-all {b} {e} {times} {ids} {n} {i} s h =
+    let z : i ≡ 0 = omega arith in
+    let same : queued times ids n ≡ sort sooner (map (mark e) (keep (triggered (rows b) e) (rows b))) = rw z at (s .same) in
+    same ∙ sym (sort-map (mark e) lower sooner by-number (keep (triggered (rows b) e) (rows b)))
+  where
+    by-number : (a c : Row) → lower a c ≡ sooner (mark e a) (mark e c)
+    by-number a c = rw (le-ltb (e .time) (e .time) (omega arith), eq-eqb (e .time) (e .time) refl)
+
+-- ---- an entry
+unfoldable pub volumeFits : List Row → List Row → Row → Bool
+volumeFits rs es e = leb (found (aSecurity (e .symbol)) rs .m1 + sharesFor (e .symbol) es) (volume .high)
+
+-- the trade of a request that waits is there
+waits-there : (rs : List Row) (e r : Row) → triggered rs e r ≡ true → there (aTrade (r .id)) rs ≡ true
+waits-there rs e r h = go (there (aTrade (r .id)) rs) refl
+  where
+    pends : eqb (found (aTrade (r .id)) rs .status) pending ≡ true
+    pends =
+        and-right (is kindRequest r) (eqb (found (aTrade (r .id)) rs .status) pending)
+        (and-left (is kindRequest r && eqb (found (aTrade (r .id)) rs .status) pending) (eqb (r .symbol) (e .symbol))
+        (and-left
+        (is kindRequest r && eqb (found (aTrade (r .id)) rs .status) pending && eqb (r .symbol) (e .symbol))
+        (reached e r)
+        h))
+
+    go : (t : Bool) → there (aTrade (r .id)) rs ≡ t → there (aTrade (r .id)) rs ≡ true
+    go true z = z
+    go false z = absurd (false≢true (rw (found-none (aTrade (r .id)) rs z) at pends))
+
+pub gathered-there : (rs : List Row) (e : Row)
+    → every (λ (m : Mark). there (aTrade (m .1)) rs) (gathered rs e) ≡ true
+unfolding gathered submits
+gathered-there rs e =
+    every-map (mark e) (λ (m : Mark). there (aTrade (m .1)) rs) (sort lower (keep (triggered rs e) rs))
+    ∙ every-sort lower (λ (r : Row). there (aTrade (r .id)) rs) (keep (triggered rs e) rs)
+    ∙ keep-every (triggered rs e) (λ (r : Row). there (aTrade (r .id)) rs) (waits-there rs e) rs
+
+pub applied-is : (b b₁ b₂ : List ℕ) (e : Row) (n : ℕ) (ms : List Mark)
+    → rows b₁
+    ≡ put sameRow (found (aSecurity (e .symbol)) (rows b)) (traded e (found (aSecurity (e .symbol)) (rows b))) (rows b)
+    → ms ≡ gathered (rows b₁) e → rows b₂ ≡ run submitMark (rows b₁) ms
+    → rows b₂ ≡ applied (record { rows = rows b; trades = n }) e .rows
+unfolding applied gathered submitMark
+applied-is b b₁ b₂ e n ms p q r =
+    r ∙ rw (q, run-map (mark e) submitMark (rows b₁) (submits (rows b₁) e), p)
+
+-- ---- the entries in turn: what is left of them fits the book
+pub record Fits (rs es : List Row) : Type 0 where
+  pub known : every (λ (e : Row). there (aSecurity (e .symbol)) rs) es ≡ true
+  pub volumes : every (volumeFits rs es) es ≡ true
+
+module _ {rs : List Row} {e : Row} {es : List Row} (s : Fits rs (e ∷ es)) where
+  pub fits-known : there (aSecurity (e .symbol)) rs ≡ true
+  unfolding every
+  fits-known = and-left (there (aSecurity (e .symbol)) rs) (every (λ (x : Row). there (aSecurity (x .symbol)) rs) es) (s .known)
+
+  pub fits-volume : found (aSecurity (e .symbol)) rs .m1 + e .n2 ≤ volume .high
+  unfolding every volumeFits sharesFor total
+  fits-volume =
+      let y = e .symbol in
+      let l : found (aSecurity y) rs .m1 + sharesFor y (e ∷ es) ≤ volume .high =
+      leb-true _ _ (and-left (volumeFits rs (e ∷ es) e) (every (volumeFits rs (e ∷ es)) es) (s .volumes))
+      in
+      let q : sharesFor y (e ∷ es) ≡ e .n2 + sharesFor y es = rw (eq-eqb y y refl) in
+      omega arith
+
+  pub fits-next : (n : ℕ) → Fits (applied (record { rows = rs; trades = n }) e .rows) es
+  unfolding every volumeFits sharesFor total
+  fits-next n =
+      let f : Fed = record { rows = rs; trades = n } in
+      let left = and-right (there (aSecurity (e .symbol)) rs) (every (λ (x : Row). there (aSecurity (x .symbol)) rs) es) (s .known) in
+      record {
+        known =
+            every-alike (λ (x : Row). there (aSecurity (x .symbol)) (applied f e .rows)) (λ (x : Row). there (aSecurity (x .symbol)) rs)
+            (λ x. there-next f e (x .symbol)) es
+            ∙ left;
+        volumes =
+            every-on (λ (x : Row). there (aSecurity (x .symbol)) rs) (volumeFits (applied f e .rows) es) (volumeFits rs (e ∷ es)) es left
+            (λ x t. ap (λ (v : ℕ). leb v (volume .high)) (moved f x t))
+            ∙ and-right (volumeFits rs (e ∷ es) e) (every (volumeFits rs (e ∷ es)) es) (s .volumes);
+      }
+    where
+      moved : (f : Fed) (x : Row) → there (aSecurity (x .symbol)) (f .rows) ≡ true
+          → found (aSecurity (x .symbol)) (applied f e .rows) .m1 + sharesFor (x .symbol) es
+          ≡ found (aSecurity (x .symbol)) (f .rows) .m1 + sharesFor (x .symbol) (e ∷ es)
+      moved f x t =
+          ap (λ (m : ℕ). m + sharesFor (x .symbol) es) (volume-next f e (x .symbol) t)
+          ∙ add-assoc (found (aSecurity (x .symbol)) (f .rows) .m1) (cond (eqb (e .symbol) (x .symbol)) (e .n2) 0)
+          (sharesFor (x .symbol) es)
+
+-- what is left of the input, applied to the book as it is, leads to w
+pub record Applying (b input : List ℕ) (w : List Row) (i : ℕ) : Type 0 where
+  trades : ℕ
+  pub within : i ≤ length input / 64
+  pub fit : Fits (rows b) (drop i (rows input))
+  pub same : run applied (record { rows = rows b; trades = trades }) (drop i (rows input)) .rows ≡ w
+
+pub apply-start : (b input : List ℕ) → Fits (rows b) (rows input)
+    → Applying b input (run applied (record { rows = rows b; trades = 0 }) (rows input) .rows) 0
+apply-start b input f = record { trades = 0; within = omega arith; fit = f; same = refl }
+
+module _ {b input : List ℕ} {w : List Row} {i : ℕ} (s : Applying b input w i) where
+  pub apply-end : length input / 64 ≤ i → rows b ≡ w
+  unfolding run
+  apply-end h = rw (left-none (rows input) i (rw length-rows h)) at (s .same)
+
+  module _ {e : Row} (h : i < length input / 64) (a : e ≡ rowAt input i) where
+    next : drop i (rows input) ≡ e ∷ drop (i + 1) (rows input)
+    next = left-next (rows input) i nothing (rw length-rows h) ∙ rw (← a)
+
+    here : Fits (rows b) (e ∷ drop (i + 1) (rows input))
+    here = rw next at (s .fit)
+
+    pub apply-known : there (aSecurity (e .symbol)) (rows b) ≡ true
+    apply-known = fits-known here
+
+    pub apply-volume : found (aSecurity (e .symbol)) (rows b) .m1 + e .n2 ≤ volume .high
+    apply-volume = fits-volume here
+
+    pub apply-more : (b′ : List ℕ) → rows b′ ≡ applied (record { rows = rows b; trades = 0 }) e .rows
+        → Applying b′ input w (i + 1)
+    unfolding applied run
+    apply-more b′ q = record {
+      trades = applied (record { rows = rows b; trades = s .trades }) e .trades;
+      within = omega arith;
+      fit = rw q (fits-next here 0);
+      same = rw q (rw next at (s .same));
+    }
+
+pub ruleset applies = (
+  submits-start,
+  submits-need,
+  submits-more,
+  submits-end,
+  gather-start,
+  gather-more,
+  gather-all,
+  apply-start,
+  apply-known,
+  apply-volume,
+  apply-more,
+  apply-end,
+)
