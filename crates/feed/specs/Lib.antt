@@ -1,4 +1,5 @@
 pub mod Hits
+pub mod Judge
 pub mod Put
 pub mod Steps
 pub mod Volumes
