@@ -1,5 +1,5 @@
--- The status of a feed, told from the book at entry, and the laws of the code that comes to it. It is the status of the
--- rules if as many trades are submitted as requests are due. Assumes nothing.
+-- The status of a feed, told from the book at entry, and the laws of the code that comes to it. It is the status of
+-- the rules if as many trades are submitted as requests are due. Assumes nothing.
 use mathlib.Core.Path.{_≡_, refl, sym, ap, _∙_}
 use mathlib.Core.Bool.{Bool, true, false, cond, _&&_, _||_, false≢true}
 use mathlib.Core.List.{List, [], _∷_}
@@ -78,12 +78,15 @@ pub ruleset hitting = (hit-start, hit-found, hit-more, hit-none)
 -- ---- sums
 pub few-inputs : (n : ℕ) → wholeRecords mostInputs n ≡ true → n / 64 ≤ mostInputs
 unfolding wholeRecords
-few-inputs n w = let h = leb-true n (mostInputs * 64) (and-right (leb 64 n && eqb (n % 64) 0) (leb n (mostInputs * 64)) w) in omega arith
+few-inputs n w =
+    let h = leb-true n (mostInputs * 64) (and-right (leb 64 n && eqb (n % 64) 0) (leb n (mostInputs * 64)) w) in
+    omega arith
 
 -- the sum of both, which may leave the machine's range, is not formed
 module _ (b : List ℕ) (es : List Row) (e : Row) where
-  pub volume-in : {s x : ℕ} {r : Row} → s ≡ sharesFor (e .symbol) es → x ≡ place (hasKey (aSecurity (e .symbol))) (rows b)
-      → r ≡ rowAt b x → s ≤ volume .high → leb (r .m1) (volume .high - s) ≡ volumeFits (rows b) es e
+  pub volume-in : {s x : ℕ} {r : Row} → s ≡ sharesFor (e .symbol) es
+      → x ≡ place (hasKey (aSecurity (e .symbol))) (rows b) → r ≡ rowAt b x → s ≤ volume .high
+      → leb (r .m1) (volume .high - s) ≡ volumeFits (rows b) es e
   unfolding volumeFits
   volume-in {s} {x} {r} f p q h =
       let m = r .m1 in

@@ -1,5 +1,5 @@
--- The shares and the volume are at most the highest volume together where the shares are, and the volume is at most what
--- they leave of it. Assumes nothing.
+-- Shares and volume together are at most the highest volume where the shares are, and the volume is at most what they
+-- leave of it. Assumes nothing.
 use Rattle.feed.specs.Judge.{judging}
 use borrow.Author.Needs.{needs}
 use Rattle.feed.proofs.judge.volume_fits.Statement.{statement}
