@@ -1,1 +1,2 @@
-// Market-Feed: what holds of the model.
+// Market-Feed, on a book that is known to be sound: the entries are judged on the book as it is, and then applied.
+pub mod judge;

@@ -1,0 +1,32 @@
+-- The invariant: the entries from place i on decide the whole. The measure is the number of entries left. Assumes
+-- nothing.
+use Prim.Native.Nat.{_-_}
+use Rattle.laws.specs.Search.{every}
+use Rattle.model.specs.Rows.{rows}
+use Rattle.shelf.specs.Loop.{Checked, loops}
+use Rattle.feed.specs.Judge.{volumeFits}
+use borrow.Author.Needs.{needs}
+use Rattle.feed.proofs.judge.volumes_fit.Statement.{statement}
+use Rattle.feed.proofs.judge.volumes_fit.Tie as tie
+
+abbrev Inv-loop : tie.InvT-loop
+Inv-loop book steady input n i₀ i =
+    Checked (volumeFits (rows book) (rows input)) input (every (volumeFits (rows book) (rows input)) (rows input)) i
+
+abbrev μ-loop : tie.MeasureT-loop
+μ-loop book steady input n i₀ i = n - i
+
+pub volumes-fit-spec : {M : Type 1} → statement M
+volumes-fit-spec =
+    tie.close
+    (tie.spec
+    Inv-loop
+    μ-loop
+    (λ c. search (needs, loops))
+    (λ c κs. search (needs, loops))
+    (λ c κs. search (needs, loops))
+    (λ c. search (needs, loops))
+    (λ c. search (needs, loops))
+    (λ c. search (needs, loops))
+    (λ c. search (needs, loops))
+    (λ c. search (needs, loops)))
