@@ -13,7 +13,7 @@ use Rattle.laws.specs.Change.{put}
 use Rattle.laws.specs.Keep.{every-alike, every-map, every-on, keep-every, run-map}
 use Rattle.laws.specs.Place.{seek-suc}
 use Rattle.laws.specs.Search.{every, keep, place, run, seek, total}
-use Rattle.laws.specs.Sort.{every-sort, insert, sort, sort-map}
+use Rattle.laws.specs.Sort.{every-sort, sort, sort-map}
 use Rattle.laws.specs.Tests.{and-left, and-right}
 use Rattle.laws.specs.Walk.{from-alike, from-holds, left-next, left-none}
 use Rattle.record.specs.Codes.{kindFree, kindRequest, kindSecurity, kindTrade, kindTradeHistory, pending, submitted}
@@ -24,11 +24,13 @@ use Rattle.model.specs.Feed.{Fed, applied, lower, reached, submits, traded, tri
 use Rattle.model.specs.Names.{aSecurity, aTrade}
 use Rattle.model.specs.Sound.{s1}
 use Rattle.model.specs.Rows.{found, hasKey, is, nothing, rows, sameRow, there}
-use Rattle.queue.specs.Queue.{Mark, markAt, queued, queued-last, sooner}
+use Rattle.queue.specs.Gather.{Gathering, gather-end}
+use Rattle.queue.specs.Queue.{Mark, markAt, ordered, queued, queued-last, sooner}
 use Rattle.shelf.specs.Rows.{after, freeFrom, length-rows, rowAt}
 use Rattle.tables.specs.Bucket.{steady-none, steady-security, steady-trade, steadyBucket}
 use Rattle.tables.specs.Names.{by-id, by-symbol}
 use Rattle.tables.specs.Table.{Indexed, key-row, table-put}
+use Rattle.feed.specs.Judge.{volumeFits}
 use Rattle.feed.specs.Put.{Clean, clean-fit, clean-set, found-has, found-none, found-other, put-found, put-free}
 use Rattle.feed.specs.Put.{there-alike, there-other}
 use Rattle.feed.specs.Volumes.{sharesFor, there-next, volume-next}
@@ -239,63 +241,23 @@ submits-end {b} {times} {ids} {w} {i} s h =
     sym q ∙ s .same
 
 -- ---- the requests that an entry submits
-abbrev mark : Row → Row → Mark
+abbrev pub mark : Row → Row → Mark
 mark e r = (e .time, r .id)
 
 unfoldable pub gathered : List Row → Row → List Mark
 gathered rs e = map (mark e) (submits rs e)
 
--- what has been seen, from the last row on, is in the queue
-pub record Gathering (b : List ℕ) (e : Row) (times ids : List ℕ) (n i : ℕ) : Type 0 where
-  pub few : n + i ≤ length b / 64
-  pub same : queued times ids n ≡ sort sooner (map (mark e) (keep (triggered (rows b) e) (drop i (rows b))))
-
-pub gather-start : (b : List ℕ) (e : Row) (times ids : List ℕ) → Gathering b e times ids 0 (length b / 64)
-unfolding queued keep sort
-gather-start b e times ids = record {
-  few = omega arith;
-  same = rw (left-none (rows b) (length b / 64) (rw length-rows (omega arith)));
-}
-
-pub gather-more : {b : List ℕ} {e : Row} {times ids : List ℕ} {n i : ℕ} → Gathering b e times ids n i
-    → (times′ ids′ : List ℕ) {r : Row} {m : ℕ} → 0 < i → r ≡ rowAt b (i - 1) → m ≤ n + 1
-    → queued times′ ids′ m
-    ≡ cond (triggered (rows b) e r) (insert sooner (e .time, r .id) (queued times ids n)) (queued times ids n)
-    → Gathering b e times′ ids′ m (i - 1)
-unfolding keep sort
-gather-more {b} {e} {times} {ids} {n} {i} s times′ ids′ {r} {m} h a k q =
-    let f = s .few in
-    let up : i - 1 + 1 ≡ i = omega arith in
-    let x : drop (i - 1) (rows b) ≡ r ∷ drop i (rows b) =
-    left-next (rows b) (i - 1) nothing (rw length-rows (omega arith)) ∙ rw (up, ← a)
-    in
-    let seen = ap (λ (l : List Row). sort sooner (map (mark e) (keep (triggered (rows b) e) l))) (sym x) in
-    record { few = omega arith; same = q ∙ go (triggered (rows b) e r) refl ∙ seen }
-  where
-    p : Row → Bool
-    p = triggered (rows b) e
-
-    go : (t : Bool) → p r ≡ t
-        → cond (p r) (insert sooner (e .time, r .id) (queued times ids n)) (queued times ids n)
-        ≡ sort sooner (map (mark e) (keep p (r ∷ drop i (rows b))))
-    go true z = rw (z, s .same)
-    go false z = rw (z, s .same)
-
-pub gather-all : {b : List ℕ} {e : Row} {times ids : List ℕ} {n i : ℕ} → Gathering b e times ids n i → i ≤ 0
+pub gather-all : (e : Row) {b times ids : List ℕ} {n i : ℕ}
+    → Gathering (triggered (rows b) e) (mark e) (ordered false) b times ids n i → i ≤ 0
     → queued times ids n ≡ gathered (rows b) e
 unfolding gathered submits sooner
-gather-all {b} {e} {times} {ids} {n} {i} s h =
-    let z : i ≡ 0 = omega arith in
-    let same : queued times ids n ≡ sort sooner (map (mark e) (keep (triggered (rows b) e) (rows b))) = rw z at (s .same) in
-    same ∙ sym (sort-map (mark e) lower sooner by-number (keep (triggered (rows b) e) (rows b)))
+gather-all e {b} s h =
+    gather-end s h ∙ sym (sort-map (mark e) lower (ordered false) by-number (keep (triggered (rows b) e) (rows b)))
   where
-    by-number : (a c : Row) → lower a c ≡ sooner (mark e a) (mark e c)
+    by-number : (a c : Row) → lower a c ≡ ordered false (mark e a) (mark e c)
     by-number a c = rw (le-ltb (e .time) (e .time) (omega arith), eq-eqb (e .time) (e .time) refl)
 
 -- ---- an entry
-unfoldable pub volumeFits : List Row → List Row → Row → Bool
-volumeFits rs es e = leb (found (aSecurity (e .symbol)) rs .m1 + sharesFor (e .symbol) es) (volume .high)
-
 -- the trade of a request that waits is there
 waits-there : (rs : List Row) (e r : Row) → triggered rs e r ≡ true → there (aTrade (r .id)) rs ≡ true
 waits-there rs e r h = go (there (aTrade (r .id)) rs) refl
@@ -418,8 +380,6 @@ pub ruleset applies = (
   submits-need,
   submits-more,
   submits-end,
-  gather-start,
-  gather-more,
   gather-all,
   apply-start,
   apply-known,
