@@ -14,7 +14,7 @@ use Rattle.laws.specs.Tests.{and-left, and-right}
 use Rattle.record.specs.Bytes.{Bytes}
 use Rattle.record.specs.declared.row.Row.{Row}
 use Rattle.rules.specs.Rules.{lookupInput}
-use Rattle.model.specs.Call.{Promise, Reply, choose, isDone, lookupCall, mostInputs, replied, shell}
+use Rattle.model.specs.Call.{Promise, Reply, isDone, lookupCall, mostInputs, replied, shell}
 use Rattle.model.specs.Lookup.{lookup}
 use Rattle.model.specs.Plan.{Outcome, pick, refused}
 use Rattle.model.specs.Rows.{mostRecords, rows, wholeRecords}

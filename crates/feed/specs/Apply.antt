@@ -14,15 +14,16 @@ use Rattle.laws.specs.Keep.{every-alike, every-map, every-on, keep-every, run-m
 use Rattle.laws.specs.Place.{seek-suc}
 use Rattle.laws.specs.Search.{every, keep, place, run, seek, total}
 use Rattle.laws.specs.Sort.{every-sort, sort, sort-map}
-use Rattle.laws.specs.Tests.{and-left, and-right}
+use Rattle.laws.specs.Tests.{and-left, and-right, and-true}
 use Rattle.laws.specs.Walk.{from-alike, from-holds, left-next, left-none}
 use Rattle.record.specs.Codes.{kindFree, kindRequest, kindSecurity, kindTrade, kindTradeHistory, pending, submitted}
 use Rattle.record.specs.declared.row.Row.{Row}
-use Rattle.rules.specs.Ranges.{id, kind, status, volume, when}
+use Rattle.rules.specs.Ranges.{id, kind, m1, n1, status, volume, when}
 use Rattle.model.specs.Edit.{_≔_, changed, new}
 use Rattle.model.specs.Feed.{Fed, applied, lower, reached, submits, traded, triggered}
 use Rattle.model.specs.Names.{aSecurity, aTrade}
-use Rattle.model.specs.Sound.{s1}
+use Rattle.model.specs.Sound.{sound}
+use Rattle.model.specs.SoundMeans.{means-s1, means-sound}
 use Rattle.model.specs.Rows.{found, hasKey, is, nothing, rows, sameRow, there}
 use Rattle.queue.specs.Gather.{Gathering, gather-end}
 use Rattle.queue.specs.Queue.{Mark, markAt, ordered, queued, queued-last, sooner}
@@ -30,6 +31,7 @@ use Rattle.shelf.specs.Rows.{after, freeFrom, length-rows, rowAt}
 use Rattle.tables.specs.Bucket.{steady-none, steady-security, steady-trade, steadyBucket}
 use Rattle.tables.specs.Names.{by-id, by-symbol}
 use Rattle.tables.specs.Table.{Indexed, key-row, table-put}
+use Rattle.feed.specs.Hits.{hits}
 use Rattle.feed.specs.Judge.{volumeFits}
 use Rattle.feed.specs.Put.{Clean, clean-fit, clean-set, found-has, found-none, found-other, put-found, put-free}
 use Rattle.feed.specs.Put.{there-alike, there-other}
@@ -80,28 +82,35 @@ module _ {b steady : List ℕ} {from : ℕ} (s : Ready b steady from) where
         lowest = rw e (alike from ∙ s .lowest ∙ sym (alike 0));
       }
 
-pub ready-start : (b steady : List ℕ) → Indexed steadyBucket b steady 0 → s1 (rows b) ≡ true → Ready b steady 0
-ready-start b steady i e = record { indexed = i; clean = clean-fit (rows b) e; lowest = refl }
+pub ready-start : (b steady : List ℕ) → Indexed steadyBucket b steady 0 → sound (rows b) ≡ true → Ready b steady 0
+ready-start b steady i e = record {
+  indexed = i;
+  clean = clean-fit (rows b) (means-s1 (rows b) .holds (means-sound (rows b) .shows e .s1));
+  lowest = refl;
+}
 
 -- ---- an entry's security
 security-kind : (y : ℕ) (r : Row) → hasKey (aSecurity y) r ≡ true → r .kind ≡ kindSecurity
 security-kind y r e =
     eqb-true (r .kind) kindSecurity (and-left (is kindSecurity r) (eqb (r .symbol) y) (sym (by-symbol y r) ∙ e))
 
-pub quoted : (b b′ steady : List ℕ) (e : Row) {at : ℕ} {s n : Row} → there (aSecurity (e .symbol)) (rows b) ≡ true
-    → at ≡ place (hasKey (aSecurity (e .symbol))) (rows b) → s ≡ rowAt b at → n ≡ traded e s
-    → length b′ ≡ length b → rows b′ ≡ set (rows b) at n
+abbrev quote : Row → Row → ℕ → Row
+quote e s v = changed s (n1 ≔ e .n1 ∷ m1 ≔ (s .m1 + v) ∷ when ≔ e .time ∷ [])
+
+pub quoted : (b b′ steady : List ℕ) (e : Row) {at v : ℕ} {s : Row} → there (aSecurity (e .symbol)) (rows b) ≡ true
+    → at ≡ place (hasKey (aSecurity (e .symbol))) (rows b) → s ≡ rowAt b at → v ≡ e .n2 → length b′ ≡ length b
+    → rows b′ ≡ set (rows b) at (quote e s v)
     → (rows b′
     ≡ put sameRow (found (aSecurity (e .symbol)) (rows b)) (traded e (found (aSecurity (e .symbol)) (rows b))) (rows b))
     × Keeps b b′ steady
-quoted b b′ steady e {at} {s} {n} t a r m l q =
+quoted b b′ steady e {at} {v} {s} t a r m l q =
     let k = aSecurity (e .symbol) in
     let f : s ≡ found k (rows b) = key-row k b a r in
     let c = security-kind (e .symbol) s (rw f (found-has k (rows b) t)) in
     let d : rowAt b at .kind ≡ kindSecurity = rw (← r) c in (
       q ∙ rw (a, m, f) (sym (put-found k (traded e (found k (rows b))) (rows b) t)),
-      λ from g. ready-put g b′ at n l q (rw (m, ← r) (steady-security (traded e s) s c c refl))
-          (λ z. no-kind (sym (ap (λ (x : Row). x .kind) m ∙ c) ∙ z)) (λ z. no-kind (sym d ∙ z)),
+      λ from g. ready-put g b′ at (quote e s v) l q (rw (← r) (steady-security (quote e s v) s c c refl))
+          (λ z. no-kind (sym c ∙ z)) (λ z. no-kind (sym d ∙ z)),
     )
   where
     no-kind : kindSecurity ≡ kindFree → ⊥
@@ -127,7 +136,7 @@ trade-kind i r e =
     eqb-true (r .kind) kindTrade (and-left (is kindTrade r) (eqb (r .id) i) (sym (trade-key i r) ∙ e))
 
 -- the history row is in the lowest free place
-added : (b b′ steady : List ℕ) (time number from : ℕ) {h : Row} {next : ℕ} → Ready b steady from → h ≡ history time number
+pub added : (b b′ steady : List ℕ) (time number from : ℕ) {h : Row} {next : ℕ} → Ready b steady from → h ≡ history time number
     → length b′ ≡ length b → next ≡ after (rows b) (freeFrom (rows b) from)
     → rows b′ ≡ set (rows b) (freeFrom (rows b) from) h
     → (rows b′ ≡ put sameRow nothing (history time number) (rows b)) × Ready b′ steady next
@@ -241,6 +250,28 @@ submits-end {b} {times} {ids} {w} {i} s h =
     sym q ∙ s .same
 
 -- ---- the requests that an entry submits
+module _ (rs : List Row) (e r : Row) {x : Bool} (h : x ≡ hits e r) where
+  pub waits-or-not : {t : Row} → (is kindRequest r && x) ≡ true → t ≡ found (aTrade (r .id)) rs
+      → eqb (t .status) pending ≡ triggered rs e r
+  unfolding hits
+  waits-or-not {t} y f =
+      let k = and-left (is kindRequest r) x y in
+      let z = sym h ∙ and-right (is kindRequest r) x y in
+      let a = and-left (eqb (r .symbol) (e .symbol)) (reached e r) z in
+      let c = and-right (eqb (r .symbol) (e .symbol)) (reached e r) z in
+      rw (f, k, a, c) (sym (and-true _ ∙ and-true _))
+
+  pub not-hit : (is kindRequest r && x) ≡ false → false ≡ triggered rs e r
+  unfolding hits
+  not-hit y =
+      go (is kindRequest r) (eqb (found (aTrade (r .id)) rs .status) pending) (eqb (r .symbol) (e .symbol)) (reached e r)
+      (rw h at y)
+    where
+      go : (a b c d : Bool) → (a && (c && d)) ≡ false → false ≡ (a && b && c && d)
+      go true true c d z = sym z
+      go true false c d z = refl
+      go false b c d z = refl
+
 abbrev pub mark : Row → Row → Mark
 mark e r = (e .time, r .id)
 

@@ -5,4 +5,6 @@ pub mod Judge
 pub mod Pending
 pub mod Put
 pub mod Steps
+pub mod Sweep
 pub mod Volumes
+pub mod Whole

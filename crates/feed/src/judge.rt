@@ -25,7 +25,7 @@ use tables::table::security_at;
 use tables::table::security_there;
 
 // The entry is on the request's symbol and reaches its bid.
-fn hits(entry: Row, request: Row) -> bool
+pub fn hits(entry: Row, request: Row) -> bool
     ensures { λ b. ⌜ b ≡ hits entry request ⌝ }
 {
     let form = request.form;

@@ -1,2 +1,67 @@
 // Market-Feed, on a book that is known to be sound: the entries are judged on the book as it is, and then applied.
+ghost use mathlib.Core.Path.{_≡_};
+ghost use mathlib.Core.Bool.{true};
+ghost use mathlib.Core.List.{[], _∷_};
+ghost use Prim.Native.Nat.{_<_};
+ghost use lib.ListN.{length};
+ghost use Rattle.record.specs.Codes.{kindFeed};
+ghost use Rattle.rules.specs.Ranges.{kind, n1, n2};
+ghost use Rattle.model.specs.Call.{mostInputs};
+ghost use Rattle.model.specs.Edit.{_≔_, new};
+ghost use Rattle.model.specs.Feed.{feed};
+ghost use Rattle.model.specs.Rows.{mostRecords, recordSize, rows, wholeRecords};
+ghost use Rattle.model.specs.Sound.{sound};
+ghost use Rattle.reply.specs.Left.{answerLeft, bookLeft};
+ghost use Rattle.tables.specs.Bucket.{steadyBucket};
+ghost use Rattle.tables.specs.Table.{Indexed};
+
 pub mod judge;
+pub mod post;
+
+use crate::judge::judge;
+use crate::judge::submitted;
+use crate::post::apply_all;
+use crate::post::sweep;
+use model::Status;
+use record::codes::Kind;
+use record::row::Grid;
+use record::row::Row;
+use reply::done;
+use shelf::place::nothing;
+use shelf::put::put;
+use tables::table::Slots;
+
+fn answer_row(entries: usize, trades: usize) -> Row
+    requires { ⌜ (entries < 4294967296) × (trades < 4294967296) ⌝ }
+    ensures { λ r. ⌜ r ≡ new (kind ≔ kindFeed ∷ n1 ≔ entries ∷ n2 ≔ trades ∷ []) ⌝ }
+{
+    let mut r = nothing();
+    r.kind = Kind::FEED;
+    r.n1 = entries as u32;
+    r.n2 = trades as u32;
+    r
+}
+
+// What a feed gives on a book that is sound: the book and the answer of the rules, and where it is refused both areas as
+// they were.
+pub fn feed(book: &mut [u8], steady: &[u16; Slots::ALL], input: &[u8], answer: &mut [u8]) -> Status
+    requires { ⌜ Indexed steadyBucket (now book) (now steady) 0 ⌝ }
+    requires { ⌜ (sound (rows (now book)) ≡ true) × (wholeRecords mostRecords (length (now book)) ≡ true) ⌝ }
+    requires { ⌜ (wholeRecords mostInputs (length (now input)) ≡ true) × (length (now answer) ≡ recordSize) ⌝ }
+    ensures { λ s. ⌜ s ≡ feed (rows (now (book .entry))) (rows (now (input .entry))) .status ⌝ }
+    ensures { λ _.
+        ⌜ now (book .exit) ≡ bookLeft (feed (rows (now (book .entry))) (rows (now (input .entry)))) (now (book .entry)) ⌝ }
+    ensures { λ _.
+        ⌜ now (answer .exit)
+        ≡ answerLeft (feed (rows (now (book .entry))) (rows (now (input .entry)))) (now (answer .entry)) ⌝ }
+{
+    let trades = submitted(book, input);
+    let s = judge(book, steady, input, trades);
+    if done(s) {
+        apply_all(book, steady, input);
+        sweep(book, input);
+        put(answer, 0, answer_row(input.len() / Grid::SIZE, trades));
+        return s;
+    }
+    s
+}

@@ -1,5 +1,4 @@
 -- The checks one after the other; the tables are built in between. Assumes nothing.
-use mathlib.Core.Path.{sym, _∙_}
 use Rattle.sound.specs.ByRow.{rule-kept}
 use Rattle.book.specs.Shell.{bad-book, bad-input, few, open-book, unsound-book}
 use borrow.Author.Needs.{needs}

@@ -1,0 +1,37 @@
+-- The history row is added, and the trade's row changed in its place, which the added row does not move. Assumes
+-- nothing.
+use mathlib.Core.Path.{ap, refl, _∙_}
+use lib.ListN.{length}
+use Rattle.shelf.specs.Rows.{length-putAt}
+use Rattle.feed.specs.Apply.{added, submits-one}
+use borrow.Author.Needs.{needs}
+use Rattle.feed.proofs.post.submit.Statement.{statement}
+use Rattle.feed.proofs.post.submit.Tie as tie
+
+trade-at-requires : tie.Need-trade-at-requires
+trade-at-requires c κs =
+    let add = c .before .before .before in
+    let long = ap length (add .add .ensures .1 .0) ∙ length-putAt _ _ _ in
+    added _ _ _ _ _ _ (c .before .before .before .before .before .before .before .pre .0) (add .before .history .ensures) long (add .add .ensures .0) (add .add .ensures .1 .1) .1 .indexed
+
+returns : tie.Need-returns
+returns c =
+    let put = c .before .before .put in
+    let add = c .before .before .before .before .before .before .before .before .before .before in
+    let start = c .before .before .before .before .before .before .before .before .before .before .before .before .before .before in
+    submits-one _ _ _ _ _ _ _ (start .pre .0) (start .pre .1) (add .before .history .ensures)
+    (ap length (add .add .ensures .1 .0) ∙ length-putAt _ _ _) (add .add .ensures .0) (add .add .ensures .1 .1)
+    (c .before .before .before .before .before .before .trade-at .ensures) (c .before .before .before .before .row-at .ensures) refl (ap length (put .ensures .0) ∙ length-putAt _ _ _)
+    (put .ensures .1)
+
+pub submit-spec : {M : Type 1} → statement M
+submit-spec =
+    tie.close
+    (tie.spec
+    (λ c κs. search needs)
+    (λ c κs. search needs)
+    trade-at-requires
+    (λ c κs. search needs)
+    (λ c κs. search needs)
+    (λ c. search needs)
+    returns)
