@@ -13,11 +13,12 @@ use Rattle.laws.specs.Search.{every}
 use Rattle.laws.specs.Tests.{and-left, and-right}
 use Rattle.record.specs.Bytes.{Bytes}
 use Rattle.record.specs.declared.row.Row.{Row}
-use Rattle.rules.specs.Rules.{lookupInput}
+use Rattle.rules.specs.Rules.{feedInput, lookupInput}
 use Rattle.model.specs.Call.{Promise, Reply, isDone, lookupCall, mostInputs, replied, shell}
+use Rattle.model.specs.Feed.{feed}
 use Rattle.model.specs.Lookup.{lookup}
 use Rattle.model.specs.Plan.{Outcome, pick, refused}
-use Rattle.model.specs.Rows.{mostRecords, rows, wholeRecords}
+use Rattle.model.specs.Rows.{mostRecords, recordSize, rows, wholeRecords}
 use Rattle.model.specs.Sound.{sound}
 use Rattle.model.specs.Status.{number}
 use Rattle.model.specs.declared.Status.{Status}
@@ -46,6 +47,7 @@ pub record Opened (b keys steady : List ℕ) : Type 0 where
   pub by-key : Indexed keyBucket b keys 0
   pub steadily : Indexed steadyBucket b steady 0
   pub is-sound : sound (rows b) ≡ true
+  pub is-whole : wholeRecords mostRecords (length b) ≡ true
 
 -- tables that can be built
 pub record Empty (b keys steady : List ℕ) : Type 0 where
@@ -95,7 +97,8 @@ module _ (inputs : Bool) (b : List ℕ) {x : Bool} (h : x ≡ wholeRecords mostR
     unfolding opening
     open-book f i p q =
         let s = rule-kept g f in
-        (rw (rule-kept h e, s, i), λ z. record { by-key = p; steadily = q; is-sound = s })
+        let w = rule-kept h e in
+        (rw (w, s, i), λ z. record { by-key = p; steadily = q; is-sound = s; is-whole = w })
 
 -- ---- the decision
 module _ (inputs : Bool) (decide : List Row → Outcome) (b : List ℕ) where
@@ -187,3 +190,21 @@ lookup-as-long n m h e = rw (← h, e)
 pub lookup-broken : (n m : ℕ) {x : Bool} → x ≡ wholeRecords mostInputs n → x ≡ false → false ≡ lookupLengths n m
 unfolding lookupLengths
 lookup-broken n m h e = rw (← h, e)
+
+-- ---- feed
+unfoldable pub feedLengths : ℕ → ℕ → Bool
+feedLengths input answer = wholeRecords mostInputs input && eqb answer recordSize
+
+abbrev pub feedDecided : List ℕ → List ℕ → Outcome
+feedDecided b input = decided (every feedInput (rows input)) (λ rs. feed rs (rows input)) b
+
+pub feed-long : (n m : ℕ) → feedLengths n m ≡ true → (wholeRecords mostInputs n ≡ true) × (m ≡ recordSize)
+unfolding feedLengths
+feed-long n m e = (
+  and-left (wholeRecords mostInputs n) (eqb m recordSize) e,
+  eqb-true m recordSize (and-right (wholeRecords mostInputs n) (eqb m recordSize) e),
+)
+
+pub feed-lengths : (n m : ℕ) {x : Bool} → x ≡ wholeRecords mostInputs n → (x && eqb m recordSize) ≡ feedLengths n m
+unfolding feedLengths
+feed-lengths n m h = rw h

@@ -4,10 +4,12 @@ ghost use mathlib.Core.Path.{_≡_};
 ghost use mathlib.Core.Bool.{true};
 ghost use Prim.Native.Nat.{_/_, _<_};
 ghost use lib.ListN.{length};
-ghost use Rattle.model.specs.Call.{Promise, isDone, lookupCall};
+ghost use Rattle.model.specs.Call.{Promise, feedCall, isDone, lookupCall};
 ghost use Rattle.model.specs.Rows.{mostRecords, wholeRecords};
-ghost use Rattle.reply.specs.Left.{answerLeft};
-ghost use Rattle.book.specs.Shell.{Empty, Opened, lookupDecided, lookupLengths, opening};
+ghost use Rattle.reply.specs.Left.{answerLeft, bookLeft};
+ghost use Rattle.book.specs.Shell.{Empty, Opened, feedDecided, feedLengths, lookupDecided, lookupLengths, opening};
+use feed::feed;
+use inputs::all_feed;
 use inputs::all_lookup;
 use lookup::lookup;
 use model::Status;
@@ -92,6 +94,44 @@ pub extern "C" fn book_lookup(book: &[u8], input: &[u8], answer: &mut [u8]) -> i
 {
     if lookup_lengths(input.len(), answer.len()) {
         let s = lookup_on(book, input, answer);
+        return finish(answer, s);
+    }
+    code(Status::BadLength)
+}
+
+fn feed_lengths(input: usize, answer: usize) -> bool
+    ensures { λ r. ⌜ r ≡ feedLengths input answer ⌝ }
+{
+    whole(input, Most::INPUTS) & (answer == Grid::SIZE)
+}
+
+fn feed_on(book: &mut [u8], input: &[u8], answer: &mut [u8]) -> Status
+    requires { ⌜ feedLengths (length (now input)) (length (now answer)) ≡ true ⌝ }
+    ensures { λ r. ⌜ r ≡ feedDecided (now (book .entry)) (now (input .entry)) .status ⌝ }
+    ensures { λ _.
+        ⌜ now (book .exit) ≡ bookLeft (feedDecided (now (book .entry)) (now (input .entry))) (now (book .entry)) ⌝ }
+    ensures { λ _.
+        ⌜ now (answer .exit) ≡ answerLeft (feedDecided (now (book .entry)) (now (input .entry))) (now (answer .entry)) ⌝ }
+{
+    let none = records(book);
+    let mut keys = [none; Slots::ALL];
+    let mut steady = [none; Slots::ALL];
+    let s = opened(book, all_feed(input), &mut keys, &mut steady);
+    if done(s) {
+        return feed(book, &steady, input, answer);
+    }
+    s
+}
+
+// Market-Feed.
+#[no_mangle]
+pub extern "C" fn book_feed(book: &mut [u8], input: &[u8], answer: &mut [u8]) -> i32
+    ensures { λ r.
+        ⌜ Promise (feedCall (now (book .entry)) (now (input .entry)) (now (answer .entry))) r (now (book .exit))
+        (now (answer .exit)) ⌝ }
+{
+    if feed_lengths(input.len(), answer.len()) {
+        let s = feed_on(book, input, answer);
         return finish(answer, s);
     }
     code(Status::BadLength)
