@@ -64,9 +64,9 @@ static size_t guard_at(const struct area *area, size_t n)
     return n < area->before ? n : n + area->length;
 }
 
-void place(struct area *area, struct dice *dice, const uint8_t *bytes, size_t length)
+void place(struct area *area, struct dice *dice, const uint8_t *bytes, size_t length, int read_only)
 {
-    size_t how = roll(dice, 4), n, at;
+    size_t how = roll(dice, 4), guards, n, at;
     area->length = length;
     area->key = (uint8_t)roll(dice, 256);
     if (how == 0)
@@ -76,12 +76,15 @@ void place(struct area *area, struct dice *dice, const uint8_t *bytes, size_t le
     else
         between_locked_pages(area, how == 2);
     area->bytes = area->block + area->before;
-    for (n = 0; n < area->before + area->after; n++) {
+    guards = area->before + area->after;
+    for (n = 0; n < guards; n++) {
         at = guard_at(area, n);
         area->block[at] = guard(area, at);
     }
     if (length > 0)
         memcpy(area->bytes, bytes, length);
+    if (read_only && area->mapped > 0)
+        need(mprotect(area->block, guards + length, PROT_READ) == 0, "mprotect");
 }
 
 int guards_hold(const struct area *area)

@@ -22,8 +22,8 @@ struct area {
     size_t mapped;        /* length of the pages around the block, 0 if it is from malloc */
 };
 
-/* Makes an area that holds these bytes, somewhere. */
-void place(struct area *area, struct dice *dice, const uint8_t *bytes, size_t length);
+/* Makes an area that holds these bytes, somewhere. Between pages, one to be read only cannot be written. */
+void place(struct area *area, struct dice *dice, const uint8_t *bytes, size_t length, int read_only);
 
 /* Whether every guard byte is as it was made. */
 int guards_hold(const struct area *area);

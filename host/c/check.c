@@ -24,8 +24,8 @@ static const int32_t of_feed[] = {SHARED, BOOK_FEED_NO_SECURITY, BOOK_OVER_LIMIT
 
 #define ALL(list) list, sizeof list / sizeof list[0]
 const struct call calls[] = {
-    {"lookup", BOOK_KIND_LOOKUP, lookup, ALL(of_lookup)},
-    {"feed", BOOK_KIND_FEED, book_feed, ALL(of_feed)},
+    {"lookup", BOOK_KIND_LOOKUP, lookup, 1, ALL(of_lookup)},
+    {"feed", BOOK_KIND_FEED, book_feed, 0, ALL(of_feed)},
 };
 const size_t call_count = sizeof calls / sizeof calls[0];
 
@@ -133,9 +133,9 @@ int check(const struct sample *sample, uint64_t seed, const char *name)
     int32_t status;
     size_t n;
     int good;
-    place(book, &dice, sample->book, sample->book_length);
-    place(input, &dice, sample->input, sample->input_length);
-    place(answer, &dice, sample->answer, sample->answer_length);
+    place(book, &dice, sample->book, sample->book_length, sample->call->only_reads);
+    place(input, &dice, sample->input, sample->input_length, 1);
+    place(answer, &dice, sample->answer, sample->answer_length, 0);
     running = name;
     status = sample->call->run(book->bytes, book->length, input->bytes, input->length, answer->bytes, answer->length);
     running = "between the calls";

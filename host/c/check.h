@@ -8,6 +8,7 @@ struct call {
     const char *name;
     uint8_t kind; /* of its input records */
     int32_t (*run)(uint8_t *, size_t, const uint8_t *, size_t, uint8_t *, size_t);
+    int only_reads; /* the book */
     const int32_t *statuses; /* all that it can give */
     size_t status_count;
 };
