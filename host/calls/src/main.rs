@@ -86,11 +86,13 @@ fn run_case(tally: &mut Tally, seed: u64, call: Call, run: Run, number: u64) {
 fn run_sequence(tally: &mut Tally, seed: u64, number: u64) {
     let mut rng = Rng::of(seed, SEQUENCE, number);
     let records = match rng.below(200) {
-        0 => MAX_RECORDS as u64,
-        _ => rng.between(18, 90),
+        0 => MAX_RECORDS,
+        _ => rng.between(18, 90) as usize,
     };
     let (wanted, _) = *rng.pick(CALLS);
-    let plan = Plan::for_call(&mut rng, wanted, records as usize);
+    let mut plan = Plan::for_call(&mut rng, wanted, records);
+    // Each call takes places up.
+    plan.free = plan.free.max(rng.index(records / 2));
     let start = gen::book_of(&mut rng, &plan);
     let mut book = Area::new(&mut rng, &start);
     for step in 1..=STEPS {
