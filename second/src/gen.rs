@@ -1219,23 +1219,33 @@ pub struct Case {
 /// A random call on a random book of at most `most` records. Each part is spoilt now and then, on
 /// its own, so that two faults meet too and the order of checking shows.
 pub fn case(rng: &mut Rng, call: Call, most: usize) -> Case {
-    let case = case_in_the_middle(rng, call, most);
-    if rng.chance(15) {
-        return to_the_edge(rng, case);
-    }
-    case
-}
-
-fn case_in_the_middle(rng: &mut Rng, call: Call, most: usize) -> Case {
     let least = if rng.chance(10) { 1 } else { most.min(18) };
     let records = if most <= 40 && rng.chance(60) {
         most
     } else {
         rng.between(least as u64, most as u64) as usize
     };
+    case_of(rng, call, records)
+}
+
+/// The same on a book of any size: most are small, one in a hundred has all 4,096 records.
+pub fn any_case(rng: &mut Rng, call: Call) -> Case {
+    match rng.below(100) {
+        0 => case_of(rng, call, MAX_RECORDS),
+        1..=5 => case(rng, call, 400),
+        6..=45 => case(rng, call, 64),
+        _ => case(rng, call, 24),
+    }
+}
+
+fn case_of(rng: &mut Rng, call: Call, records: usize) -> Case {
     let plan = Plan::for_call(rng, call, records);
     let book = book_of(rng, &plan);
-    case_on(rng, call, book)
+    let case = case_on(rng, call, book);
+    if rng.chance(15) {
+        return to_the_edge(rng, case);
+    }
+    case
 }
 
 /// A random call on this sound book, which may be spoilt for it.

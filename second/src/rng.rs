@@ -9,6 +9,12 @@ impl Rng {
         Rng { state: seed }
     }
 
+    /// The source of one thing among many of a seed, so that it can be made again without the others.
+    pub fn of(seed: u64, kind: u8, number: u64) -> Rng {
+        let kind_seed = Rng::new(seed).draw() ^ u64::from(kind);
+        Rng::new(Rng::new(kind_seed).draw() ^ number)
+    }
+
     pub fn draw(&mut self) -> u64 {
         self.state = self.state.wrapping_add(0x9E37_79B9_7F4A_7C15);
         let mut z = self.state;

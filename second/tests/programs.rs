@@ -44,6 +44,54 @@ fn vectors() {
     }
 }
 
+fn cases_of(arguments: &[&str]) -> Vec<u8> {
+    let program = env!("CARGO_BIN_EXE_cases");
+    let output = Command::new(program).args(arguments).output().unwrap();
+    assert!(output.status.success());
+    output.stdout
+}
+
+/// The next part of these bytes, of so many.
+fn take<'a>(bytes: &mut &'a [u8], count: usize) -> &'a [u8] {
+    let (part, rest) = bytes.split_at(count);
+    *bytes = rest;
+    part
+}
+
+#[test]
+fn cases() {
+    let all = cases_of(&["3", "1", "150", "order", "result", "feed", "lookup"]);
+    let mut rest = &all[..];
+    let mut seen = BTreeSet::new();
+    for number in 1..=150 {
+        for call in Call::ALL {
+            let start = rest;
+            let mut four = || u32::from_le_bytes(take(&mut rest, 4).try_into().unwrap());
+            assert_eq!(four(), u32::from(call.kind()));
+            assert_eq!(four(), number);
+            let [book, input, answer] = [(); 3].map(|()| four() as usize);
+            let status = four() as i32;
+            let mut found_book = take(&mut rest, book).to_vec();
+            let input = take(&mut rest, input);
+            let mut found_answer = take(&mut rest, answer).to_vec();
+            let found = call.run(&mut found_book, input, &mut found_answer);
+            assert_eq!(found, status);
+            assert_eq!(found_book, take(&mut rest, book));
+            assert_eq!(found_answer, take(&mut rest, answer));
+            seen.insert((call, status));
+            if number == 77 {
+                let alone = cases_of(&["3", "77", "77", call.name()]);
+                assert_eq!(alone, start[..start.len() - rest.len()]);
+            }
+        }
+    }
+    assert!(rest.is_empty());
+    for call in Call::ALL {
+        let statuses = seen.iter().filter(|(of, _)| *of == call).count();
+        assert!(statuses >= call.statuses().len() - 2, "{}", call.name());
+    }
+}
+
 #[test]
 fn books() {
     let program = env!("CARGO_BIN_EXE_books");

@@ -1,0 +1,41 @@
+//! The calls of libbook.a, as include/book.h declares them.
+
+use second::calls::Call;
+
+extern "C" {
+    fn book_feed(
+        book: *mut u8,
+        book_len: usize,
+        input: *const u8,
+        input_len: usize,
+        answer: *mut u8,
+        answer_len: usize,
+    ) -> i32;
+    fn book_lookup(
+        book: *const u8,
+        book_len: usize,
+        input: *const u8,
+        input_len: usize,
+        answer: *mut u8,
+        answer_len: usize,
+    ) -> i32;
+}
+
+/// A call on a book, an input and an answer area.
+pub type Run = fn(&mut [u8], &[u8], &mut [u8]) -> i32;
+
+macro_rules! on_slices {
+    ($name:ident) => {
+        |book, input, answer| {
+            let (a, b, c) = (book.len(), input.len(), answer.len());
+            // SAFETY: the pointers and lengths are those of slices that are borrowed until the call returns.
+            unsafe { $name(book.as_mut_ptr(), a, input.as_ptr(), b, answer.as_mut_ptr(), c) }
+        }
+    };
+}
+
+/// The calls that the library has.
+pub const CALLS: &[(Call, Run)] = &[
+    (Call::Lookup, on_slices!(book_lookup)),
+    (Call::Feed, on_slices!(book_feed)),
+];

@@ -1,0 +1,255 @@
+//! `calls [--seed S] [--cases N] [--seconds T] [--only NAME N]`: holds the library to the second program: N random
+//! cases of each call (else 20,000) and one sequence of calls on one book for every twenty of them. With --seconds
+//! it goes on for so long instead, and with 0 until ten have failed. With --only it runs one case of a call, or one
+//! `sequence`, of the seed again. Prints how often each status came; its last line is 'N passed, M failed'.
+
+mod area;
+mod library;
+
+use area::Area;
+use library::{Run, CALLS};
+use second::calls::Call;
+use second::gen::{self, Case, Plan};
+use second::record::MAX_RECORDS;
+use second::rng::Rng;
+use std::collections::BTreeMap;
+use std::time::{Duration, Instant};
+
+const CASES: u64 = 20_000;
+/// There is one sequence for so many cases of each call, and it has so many steps.
+const CASES_PER_SEQUENCE: u64 = 20;
+const STEPS: usize = 30;
+const MOST_SAID: u64 = 10;
+/// "No function takes more than 512 KiB of stack with all that it calls."
+const STACK: usize = 512 * 1024;
+/// The kind that stands for a sequence, where a source of random numbers is for one kind of input records.
+const SEQUENCE: u8 = 0;
+
+#[derive(Default)]
+struct Tally {
+    passed: u64,
+    failed: u64,
+    /// How often a call was expected to give a status, on its own and in sequences.
+    alone: BTreeMap<(Call, i32), u64>,
+    in_sequences: BTreeMap<(Call, i32), u64>,
+}
+
+impl Tally {
+    fn count(&mut self, name: impl Fn() -> String, fault: Option<String>) {
+        let Some(fault) = fault else {
+            self.passed += 1;
+            return;
+        };
+        self.failed += 1;
+        if self.failed <= MOST_SAID {
+            println!("{}: {fault}", name());
+        }
+    }
+}
+
+/// Runs the library on the book where it lies and on areas of its own for the rest, and the second program on copies.
+/// Gives the status that is expected and what is wrong.
+fn compare(
+    rng: &mut Rng,
+    run: impl Fn(&mut [u8], &[u8], &mut [u8]) -> i32,
+    case: &Case,
+    book: &mut Area,
+) -> (i32, Option<String>) {
+    let mut expected_book = case.book.clone();
+    let mut expected_answer = case.answer.clone();
+    let expected = case
+        .call
+        .run(&mut expected_book, &case.input, &mut expected_answer);
+    let mut input = Area::new(rng, &case.input);
+    let mut answer = Area::new(rng, &case.answer);
+    let status = run(book.bytes(), input.bytes(), answer.bytes());
+    let fault = (status != expected)
+        .then(|| format!("status {status}, expected {expected}"))
+        .or_else(|| book.fault("book", &expected_book))
+        .or_else(|| input.fault("input", &case.input))
+        .or_else(|| answer.fault("answer", &expected_answer));
+    (expected, fault)
+}
+
+fn run_case(tally: &mut Tally, seed: u64, call: Call, run: Run, number: u64) {
+    let mut rng = Rng::of(seed, call.kind(), number);
+    let case = gen::any_case(&mut rng, call);
+    let mut book = Area::new(&mut rng, &case.book);
+    let (status, fault) = compare(&mut rng, run, &case, &mut book);
+    *tally.alone.entry((call, status)).or_default() += 1;
+    let name = || format!("seed {seed}, {} case {number}", call.name());
+    tally.count(name, fault);
+}
+
+/// Random calls in turn on one book, which the library keeps where it is. A call that wants the book spoilt gets
+/// another one. The sequence ends with the first fault.
+fn run_sequence(tally: &mut Tally, seed: u64, number: u64) {
+    let mut rng = Rng::of(seed, SEQUENCE, number);
+    let records = match rng.below(200) {
+        0 => MAX_RECORDS,
+        _ => rng.between(18, 90) as usize,
+    };
+    let (wanted, _) = *rng.pick(CALLS);
+    let mut plan = Plan::for_call(&mut rng, wanted, records);
+    // Each call takes places up.
+    plan.free = plan.free.max(rng.index(records / 2));
+    let start = gen::book_of(&mut rng, &plan);
+    let mut book = Area::new(&mut rng, &start);
+    for step in 1..=STEPS {
+        let (call, run) = *rng.pick(CALLS);
+        let case = gen::case_on(&mut rng, call, book.bytes().to_vec());
+        let (status, fault) = if case.book == book.bytes() {
+            compare(&mut rng, run, &case, &mut book)
+        } else {
+            let mut spoilt = Area::new(&mut rng, &case.book);
+            compare(&mut rng, run, &case, &mut spoilt)
+        };
+        *tally.in_sequences.entry((call, status)).or_default() += 1;
+        let failed = fault.is_some();
+        let name = || {
+            format!(
+                "seed {seed}, sequence {number}, step {step}, {}",
+                call.name()
+            )
+        };
+        tally.count(name, fault);
+        if failed {
+            return;
+        }
+    }
+}
+
+/// A case of this call that is accepted, on a book of all records that there may be.
+fn largest(rng: &mut Rng, call: Call) -> Case {
+    loop {
+        let plan = Plan::for_call(rng, call, MAX_RECORDS);
+        let book = gen::book_of(rng, &plan);
+        let case = gen::case_on(rng, call, book);
+        let (mut book, mut answer) = (case.book.clone(), case.answer.clone());
+        if call.run(&mut book, &case.input, &mut answer) == 0 {
+            return case;
+        }
+    }
+}
+
+/// Runs each call by a thread that has no more stack than a call may take.
+fn run_on_small_stacks(tally: &mut Tally, seed: u64) {
+    for (call, run) in CALLS {
+        let mut rng = Rng::of(seed, call.kind(), 0);
+        let case = largest(&mut rng, *call);
+        let name = || format!("seed {seed}, {} on a stack of {STACK} bytes", call.name());
+        // Too deep a stack ends this program; the message has the thread's name.
+        let on_thread = |book: &mut [u8], input: &[u8], answer: &mut [u8]| {
+            std::thread::scope(|scope| {
+                let thread = std::thread::Builder::new().name(name()).stack_size(STACK);
+                let started = thread.spawn_scoped(scope, || run(book, input, answer));
+                started.unwrap().join().unwrap()
+            })
+        };
+        let mut book = Area::new(&mut rng, &case.book);
+        let (_, fault) = compare(&mut rng, on_thread, &case, &mut book);
+        tally.count(name, fault);
+    }
+}
+
+/// Prints how often each status was expected, and counts a failure for each that never was of a case on its own.
+fn report(tally: &mut Tally) {
+    for (call, _) in CALLS {
+        for (counts, where_from) in [(&tally.alone, ""), (&tally.in_sequences, " in sequences")] {
+            let count = |status: &i32| counts.get(&(*call, *status)).unwrap_or(&0);
+            let words: Vec<String> = call
+                .statuses()
+                .iter()
+                .map(|status| format!("{} of {status}", count(status)))
+                .collect();
+            println!("{}{where_from}: {}", call.name(), words.join(", "));
+        }
+        for status in call.statuses() {
+            if !tally.alone.contains_key(&(*call, *status)) {
+                let fault = Some(format!("no case has status {status}"));
+                tally.count(|| call.name().to_string(), fault);
+            }
+        }
+    }
+}
+
+struct Asked {
+    seed: u64,
+    cases: u64,
+    seconds: Option<u64>,
+    only: Option<(String, u64)>,
+}
+
+fn asked() -> Option<Asked> {
+    let mut asked = Asked {
+        seed: 1,
+        cases: CASES,
+        seconds: None,
+        only: None,
+    };
+    let mut words = std::env::args().skip(1);
+    while let Some(word) = words.next() {
+        let mut number = || words.next()?.parse::<u64>().ok();
+        match word.as_str() {
+            "--seed" => asked.seed = number()?,
+            "--cases" => asked.cases = number()?,
+            "--seconds" => asked.seconds = Some(number()?),
+            "--only" => asked.only = Some((words.next()?, words.next()?.parse().ok()?)),
+            _ => return None,
+        }
+    }
+    Some(asked)
+}
+
+fn run_one(tally: &mut Tally, seed: u64, name: &str, number: u64) -> Option<()> {
+    if name == "sequence" {
+        run_sequence(tally, seed, number);
+        return Some(());
+    }
+    let (call, run) = CALLS.iter().find(|(call, _)| call.name() == name)?;
+    run_case(tally, seed, *call, *run, number);
+    Some(())
+}
+
+fn run_all(tally: &mut Tally, asked: &Asked) {
+    let began = Instant::now();
+    let goes_on = |number: u64, failed: u64| match asked.seconds {
+        None => number <= asked.cases,
+        Some(0) => failed < MOST_SAID,
+        Some(seconds) => began.elapsed() < Duration::from_secs(seconds),
+    };
+    run_on_small_stacks(tally, asked.seed);
+    let mut number = 1;
+    while goes_on(number, tally.failed) {
+        for (call, run) in CALLS {
+            run_case(tally, asked.seed, *call, *run, number);
+        }
+        if number % CASES_PER_SEQUENCE == 0 {
+            run_sequence(tally, asked.seed, number / CASES_PER_SEQUENCE);
+        }
+        if number % 1_000_000 == 0 {
+            println!("{number} cases of each call, {} failed", tally.failed);
+        }
+        number += 1;
+    }
+    report(tally);
+}
+
+fn main() {
+    let mut tally = Tally::default();
+    let done = asked().and_then(|asked| match &asked.only {
+        Some((name, number)) => run_one(&mut tally, asked.seed, name, *number),
+        None => {
+            run_all(&mut tally, &asked);
+            Some(())
+        }
+    });
+    if done.is_none() {
+        eprintln!(
+            "usage: calls [--seed S] [--cases N] [--seconds T] [--only CALL-or-'sequence' N]"
+        );
+        std::process::exit(2);
+    }
+    println!("{} passed, {} failed", tally.passed, tally.failed);
+    std::process::exit(i32::from(tally.failed > 0));
+}

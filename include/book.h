@@ -1,0 +1,169 @@
+/*
+ * The calls of the proved book, for C99 and C++11. Link libbook.a, which `rt staticlib book` writes (x86-64).
+ *
+ * A book is a run of 1 to 4,096 records of 64 bytes, without a header. A record of 64 zeros is free. Numbers are
+ * little-endian, signed ones two's complement. "The page of the rules" is "Build scope and exact rules".
+ *
+ * For every call:
+ * - An area is a pointer and its length in bytes. Any alignment will do. The areas of one call must not overlap.
+ * - No pointer may be NULL, not even with length 0. Nothing is read or written outside the areas.
+ * - It returns its status: the first of its statuses, in the order of checking, whose condition holds, else 0.
+ * - BOOK_BAD_LENGTH writes nothing at all. Any other refusal leaves the book as it was and fills the answer with
+ *   zeros, but for the status, signed, in bytes 60 to 63 of the whole area. On success these four bytes are zero.
+ * - What was in the answer area before does not matter.
+ * - No state is kept between calls, nothing is allocated, and no call blocks. Threads may call at once if no area that
+ *   one of them may write is an area of another.
+ * - A call takes less than 512 KiB of stack.
+ */
+#ifndef BOOK_H
+#define BOOK_H
+
+#include <stddef.h>
+#include <stdint.h>
+
+#ifdef __cplusplus
+extern "C" {
+#endif
+
+/* What a call returns, in the order of checking. The comment is the condition. */
+enum {
+    BOOK_DONE = 0,                    /* no refusal */
+    BOOK_BAD_LENGTH = -100,           /* input or answer area has the wrong length */
+    BOOK_BAD_BOOK = -101,             /* book length is 0, no multiple of 64, or over 4,096 records */
+    BOOK_UNSOUND = -102,              /* the book is not sound: S1 to S10 of the page of the rules */
+    BOOK_BAD_INPUT = -103,            /* an input field breaks its rule */
+    BOOK_ORDER_NO_ACCOUNT = -711,     /* order: no such account */
+    BOOK_ORDER_NO_SECURITY = -712,    /* order: no such security */
+    BOOK_ORDER_NO_TAX = -731,         /* order: gain and tax status 1 or 2, yet tax is 0 */
+    BOOK_ORDER_NO_RATE = -732,        /* order: rate 0 or no band */
+    BOOK_ORDER_NO_CHARGE = -733,      /* order: charge 0 or no row */
+    BOOK_RESULT_NO_TRADE = -811,      /* result: no such trade */
+    BOOK_RESULT_NOT_SUBMITTED = -812, /* result: its status is not 2 */
+    BOOK_RESULT_NO_TAX = -831,        /* result: gain and tax status 1 or 2, yet tax is 0 */
+    BOOK_RESULT_NO_RATE = -841,       /* result: rate 0 or no band */
+    BOOK_FEED_NO_SECURITY = -311,     /* feed: an entry's security is unknown */
+    BOOK_LOOKUP_NO_TRADE = -611,      /* lookup: a trade is unknown */
+    BOOK_OVER_LIMIT = -104,           /* trade number, balance, broker's trades or commission total, or volume would
+                                         leave its range */
+    BOOK_NO_ROOM = -105               /* free places at entry are fewer than rows to add */
+};
+
+enum {
+    BOOK_RECORD_SIZE = 64,    /* bytes of a record */
+    BOOK_MOST_RECORDS = 4096, /* of a book */
+    BOOK_MOST_INPUTS = 20     /* records of one feed or lookup */
+};
+
+/* Where a field of a record begins. Fields that a kind does not use are zero. */
+enum {
+    BOOK_AT_KIND = 0,    /* 1 byte */
+    BOOK_AT_TYPE = 1,    /* 1 byte */
+    BOOK_AT_STATUS = 2,  /* 1 byte */
+    BOOK_AT_FLAGS = 3,   /* 1 byte */
+    BOOK_AT_PARTY = 4,   /* 4 bytes */
+    BOOK_AT_ID = 8,      /* 8 bytes */
+    BOOK_AT_SYMBOL = 16, /* 8 bytes: 1 to 7 of A-Z, 0-9, "." and "-", then zeros; the last byte is always zero */
+    BOOK_AT_N1 = 24,     /* 4 bytes */
+    BOOK_AT_N2 = 28,     /* 4 bytes */
+    BOOK_AT_N3 = 32,     /* 4 bytes */
+    BOOK_AT_N4 = 36,     /* 4 bytes */
+    BOOK_AT_M1 = 40,     /* 8 bytes */
+    BOOK_AT_M2 = 48,     /* 8 bytes */
+    BOOK_AT_TIME = 56,   /* 4 bytes: seconds from 2000-01-01 */
+    BOOK_AT_N5 = 60      /* 4 bytes: zero in every row; the status in an answer */
+};
+
+/* The kinds of rows. Each kind's fields and their ranges are on the page of the rules, "One grid for every row". */
+enum {
+    BOOK_KIND_BROKER = 1,
+    BOOK_KIND_CUSTOMER = 2,
+    BOOK_KIND_TAX_RATE = 3,
+    BOOK_KIND_CUSTOMER_RATE = 4,
+    BOOK_KIND_ACCOUNT = 5,
+    BOOK_KIND_SECURITY = 6,
+    BOOK_KIND_BAND = 7, /* commission band */
+    BOOK_KIND_CHARGE = 8,
+    BOOK_KIND_TRADE = 9,
+    BOOK_KIND_REQUEST = 10,
+    BOOK_KIND_HISTORY = 11, /* trade history */
+    BOOK_KIND_LOT = 12,
+    BOOK_KIND_SUMMARY = 13,
+    BOOK_KIND_LOT_HISTORY = 14,
+    BOOK_KIND_SETTLEMENT = 15,
+    BOOK_KIND_CASH = 16
+};
+
+/* The kinds of input records. An order, a result and a feed answer one record of the same kind. */
+enum {
+    BOOK_KIND_ORDER = 33,
+    BOOK_KIND_RESULT = 34,
+    BOOK_KIND_FEED = 35,
+    BOOK_KIND_LOOKUP = 36
+};
+
+/* Trade types: 1 and 3 buy, the others sell. */
+enum {
+    BOOK_TMB = 1, /* market buy */
+    BOOK_TMS = 2, /* market sell */
+    BOOK_TLB = 3, /* limit buy */
+    BOOK_TLS = 4, /* limit sell */
+    BOOK_TSL = 5  /* stop loss */
+};
+
+/* Trade statuses. */
+enum {
+    BOOK_PNDG = 1, /* pending: it has a request */
+    BOOK_SBMT = 2, /* submitted */
+    BOOK_CMPT = 3  /* completed: it has a settlement */
+};
+
+/* Flags, added up. Trades have the first two, settlements the first, order inputs all three. */
+enum {
+    BOOK_FLAG_CASH = 1,
+    BOOK_FLAG_LIFO = 2,
+    BOOK_FLAG_ROLL_BACK = 4
+};
+
+/*
+ * Market-Feed: new prices. Entries apply in turn, all of them or none.
+ *
+ *   book    read and written; book_len is 64 times the number of records, 1 to 4,096
+ *   input   read: 1 to 20 records, input_len 64 times that. In each: kind 35, symbol, n1 price 1..99,999,999,
+ *           n2 shares 1..999,999, time 0..4,000,000,000; all else zero
+ *   answer  written: one record, answer_len is 64
+ *
+ * Statuses, in the order of checking: BOOK_BAD_LENGTH, BOOK_BAD_BOOK, BOOK_UNSOUND, BOOK_BAD_INPUT (any entry),
+ * BOOK_FEED_NO_SECURITY (any entry), BOOK_OVER_LIMIT (a volume above 999,999,999,999), BOOK_NO_ROOM, BOOK_DONE.
+ *
+ * On BOOK_DONE each entry in turn has set its security's last price (n1) and time and added its shares to the volume
+ * (m1). Then each request on its symbol with type TLB or TSL and bid >= price, or type TLS and bid <= price, by rising
+ * trade number, became a free record; its trade took status 2 and the entry's time; and a history row of status 2 and
+ * that time was added. Added rows are on the lowest places that were free when the call began, in the order in which
+ * they were added: places that this call freed are not among them. The book is sound again, and no other byte of it
+ * changed. The answer is zeros but for: kind 35, n1 entries applied, n2 trades submitted.
+ */
+int32_t book_feed(uint8_t *book, size_t book_len, const uint8_t *input, size_t input_len, uint8_t *answer,
+                  size_t answer_len);
+
+/*
+ * Trade-Lookup: trades by their numbers.
+ *
+ *   book    read only; book_len is 64 times the number of records, 1 to 4,096
+ *   input   read: 1 to 20 records, input_len 64 times that. In each: kind 36, id a trade's number,
+ *           1..999,999,999,999,999; all else zero. A number may come again
+ *   answer  written: two records for each of the input, so answer_len is 2 times input_len
+ *
+ * Statuses, in the order of checking: BOOK_BAD_LENGTH, BOOK_BAD_BOOK, BOOK_UNSOUND, BOOK_BAD_INPUT (any record),
+ * BOOK_LOOKUP_NO_TRADE (any record), BOOK_DONE.
+ *
+ * On BOOK_DONE the answer has, for each input record in turn, the trade's row and then its settlement's row, or 64
+ * zeros where the trade has none.
+ */
+int32_t book_lookup(const uint8_t *book, size_t book_len, const uint8_t *input, size_t input_len, uint8_t *answer,
+                    size_t answer_len);
+
+#ifdef __cplusplus
+}
+#endif
+
+#endif
