@@ -3,19 +3,18 @@
 use mathlib.Core.Path.{_≡_, refl, sym, ap, _∙_}
 use mathlib.Core.Bool.{Bool, true, false, cond, false≢true, _&&_}
 use mathlib.Core.List.{List, [], _∷_, map}
-use Prim.Native.Nat.{ℕ, suc, _+_, _-_, _/_, _≤_, _<_}
+use Prim.Native.Nat.{ℕ, _+_, _-_, _/_, _≤_, _<_}
 use native.Mathlib.Nat.{add-assoc}
 use native.Mathlib.Omega.{arith}
-use lib.Dec.{eqb, leb, ltb}
+use lib.Dec.{eqb, leb}
 use lib.ListN.{length, drop, getD, set}
-use borrow.Author.Tests.{eq-eqb, eqb-true, lt-ltb, le-ltb, ltb-true, ltb-false, leb-true, ne-eqb}
+use borrow.Author.Tests.{eq-eqb, eqb-true, le-ltb, leb-true, ne-eqb}
 use Rattle.laws.specs.Change.{put}
 use Rattle.laws.specs.Keep.{every-alike, every-map, every-on, keep-every, run-map}
-use Rattle.laws.specs.Place.{seek-suc}
-use Rattle.laws.specs.Search.{every, keep, place, run, seek, total}
+use Rattle.laws.specs.Search.{every, keep, place, run, total}
 use Rattle.laws.specs.Sort.{every-sort, sort, sort-map}
 use Rattle.laws.specs.Tests.{and-left, and-right, and-true}
-use Rattle.laws.specs.Walk.{from-alike, from-holds, left-next, left-none}
+use Rattle.laws.specs.Walk.{from-holds, left-next, left-none}
 use Rattle.record.specs.Codes.{kindFree, kindRequest, kindSecurity, kindTrade, kindTradeHistory, pending, submitted}
 use Rattle.record.specs.declared.row.Row.{Row}
 use Rattle.rules.specs.Ranges.{id, kind, m1, n1, status, volume, when}
@@ -27,66 +26,38 @@ use Rattle.model.specs.SoundMeans.{means-s1, means-sound}
 use Rattle.model.specs.Rows.{found, hasKey, is, nothing, rows, sameRow, there}
 use Rattle.queue.specs.Gather.{Gathering, gather-end}
 use Rattle.queue.specs.Queue.{Mark, markAt, ordered, queued, queued-last, sooner}
+use Rattle.shelf.specs.Put.{Free, found-has, found-none, found-other, free-add, free-put, free-start, put-found}
+use Rattle.shelf.specs.Put.{there-alike, there-other}
 use Rattle.shelf.specs.Rows.{after, freeFrom, length-rows, rowAt}
 use Rattle.tables.specs.Bucket.{steady-none, steady-security, steady-trade, steadyBucket}
 use Rattle.tables.specs.Names.{by-id, by-symbol}
 use Rattle.tables.specs.Table.{Indexed, key-row, table-put}
 use Rattle.feed.specs.Hits.{hits}
 use Rattle.feed.specs.Judge.{volumeFits}
-use Rattle.feed.specs.Put.{Clean, clean-fit, clean-set, found-has, found-none, found-other, put-found, put-free}
-use Rattle.feed.specs.Put.{there-alike, there-other}
 use Rattle.feed.specs.Volumes.{sharesFor, there-next, volume-next}
 
 -- ---- the book as the next step may take it
 pub record Ready (b steady : List ℕ) (from : ℕ) : Type 0 where
   pub indexed : Indexed steadyBucket b steady 0
-  pub clean : Clean (rows b)
-  pub lowest : freeFrom (rows b) from ≡ freeFrom (rows b) 0
+  pub free : Free b from
 
 abbrev pub Keeps : List ℕ → List ℕ → List ℕ → Type 0
 Keeps b b′ steady = (from : ℕ) → Ready b steady from → Ready b′ steady from
-
--- after the lowest free place is filled the search goes on behind it
-lowest-next : (n : Row) → is kindFree n ≡ false → (rs : List Row)
-    → freeFrom (set rs (freeFrom rs 0) n) (after rs (freeFrom rs 0)) ≡ freeFrom (set rs (freeFrom rs 0) n) 0
-unfolding seek after
-lowest-next n e [] = refl
-lowest-next n e (x ∷ l) = go (lowest-next n e l) (is kindFree x) refl
-  where
-    p : ℕ
-    p = freeFrom l 0
-
-    up : (t : Bool) → ltb p (length l) ≡ t
-        → cond (ltb (suc p) (suc (length l))) (suc p + 1) (suc p) ≡ suc (cond (ltb p (length l)) (p + 1) p)
-    up true h = rw (lt-ltb (suc p) (suc (length l)) (omega (arith, ltb-true p (length l) h)), h) (omega arith)
-    up false h = rw (le-ltb (suc p) (suc (length l)) (omega (arith, ltb-false p (length l) h)), h)
-
-    go : freeFrom (set l p n) (after l p) ≡ freeFrom (set l p n) 0 → (t : Bool) → is kindFree x ≡ t
-        → freeFrom (set (x ∷ l) (freeFrom (x ∷ l) 0) n) (after (x ∷ l) (freeFrom (x ∷ l) 0))
-        ≡ freeFrom (set (x ∷ l) (freeFrom (x ∷ l) 0) n) 0
-    go ih true h = rw (h, lt-ltb 0 (length (x ∷ l)) (omega arith), e)
-    go ih false h =
-        rw (h, seek-suc (is kindFree) 0 l, up (ltb p (length l)) refl, h, seek-suc (is kindFree) 0 (set l p n))
-        (seek-suc (is kindFree) (after l p) (drop (after l p) (set l p n)) ∙ ap suc ih)
 
 -- ---- a row that is not free gives way to one of its bucket
 module _ {b steady : List ℕ} {from : ℕ} (s : Ready b steady from) where
   ready-put : (b′ : List ℕ) (j : ℕ) (r : Row) → length b′ ≡ length b → rows b′ ≡ set (rows b) j r
       → steadyBucket r ≡ steadyBucket (rowAt b j) → (r .kind ≡ kindFree → ⊥) → (rowAt b j .kind ≡ kindFree → ⊥)
       → Ready b′ steady from
-  ready-put b′ j r l e g n o =
-      let alike = from-alike (is kindFree) nothing (rows b) j r (λ h. ne-eqb (r .kind) kindFree n ∙ sym (ne-eqb (rowAt b j .kind) kindFree o)) in
-      record {
-        indexed = table-put (s .indexed) b′ j r l e (λ h. g);
-        clean = rw e (clean-set (rows b) j r (s .clean) n);
-        lowest = rw e (alike from ∙ s .lowest ∙ sym (alike 0));
-      }
+  ready-put b′ j r l e g n o = record {
+    indexed = table-put (s .indexed) b′ j r l e (λ h. g);
+    free = free-put b b′ from j r (s .free) (ne-eqb (r .kind) kindFree n) (ne-eqb (rowAt b j .kind) kindFree o) e;
+  }
 
 pub ready-start : (b steady : List ℕ) → Indexed steadyBucket b steady 0 → sound (rows b) ≡ true → Ready b steady 0
 ready-start b steady i e = record {
   indexed = i;
-  clean = clean-fit (rows b) (means-s1 (rows b) .holds (means-sound (rows b) .shows e .s1));
-  lowest = refl;
+  free = free-start b (means-s1 (rows b) .holds (means-sound (rows b) .shows e .s1));
 }
 
 -- ---- an entry's security
@@ -141,27 +112,17 @@ pub added : (b b′ steady : List ℕ) (time number from : ℕ) {h : Row} {next 
     → rows b′ ≡ set (rows b) (freeFrom (rows b) from) h
     → (rows b′ ≡ put sameRow nothing (history time number) (rows b)) × Ready b′ steady next
 added b b′ steady time number from {h} {next} s e l n q =
-    let rs = rows b in
     let x = history time number in
-    let p = freeFrom rs 0 in
-    let r : rows b′ ≡ set rs p x = q ∙ rw (e, s .lowest) in (
-      r ∙ sym (put-free x rs (s .clean)),
-      record {
-        indexed = table-put (s .indexed) b′ p x l r (λ i. bucket i);
-        clean = rw r (clean-set rs p x (s .clean) (λ z. no-kind z));
-        lowest = rw (r, n, s .lowest) (lowest-next x refl rs);
-      },
-    )
+    let r : rows b′ ≡ set (rows b) (freeFrom (rows b) from) x = q ∙ rw e in
+    let add = free-add b b′ from x (s .free) refl n r in
+    (add .0, record { indexed = table-put (s .indexed) b′ (freeFrom (rows b) from) x l r bucket; free = add .1 })
   where
-    no-kind : kindTradeHistory ≡ kindFree → ⊥
-    no-kind z = omega arith
-
-    bucket : freeFrom (rows b) 0 < length b / 64
-        → steadyBucket (history time number) ≡ steadyBucket (rowAt b (freeFrom (rows b) 0))
+    bucket : freeFrom (rows b) from < length b / 64
+        → steadyBucket (history time number) ≡ steadyBucket (rowAt b (freeFrom (rows b) from))
     bucket i =
-        let f = from-holds (is kindFree) (rows b) 0 nothing (rw length-rows i) in
+        let f = from-holds (is kindFree) (rows b) from nothing (rw length-rows i) in
         steady-none (history time number) refl refl
-        ∙ sym (steady-none (rowAt b (freeFrom (rows b) 0)) (eqb-true _ kindFree f) refl)
+        ∙ sym (steady-none (rowAt b (freeFrom (rows b) from)) (eqb-true _ kindFree f) refl)
 
 module _ (rs : List Row) (m : Mark) where
   abbrev between : List Row

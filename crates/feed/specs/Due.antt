@@ -29,7 +29,7 @@ use Rattle.model.specs.SoundMeans.{SoundBook, means-sound}
 use Rattle.tables.specs.Names.{by-id}
 use Rattle.feed.specs.Hits.{due, hitBy, hits}
 use Rattle.feed.specs.Pending.{pends, pends-submits, pends-traded}
-use Rattle.feed.specs.Put.{found-has}
+use Rattle.shelf.specs.Put.{found-has}
 use Rattle.feed.specs.Steps.{kind-of, submits-keep, traded-keeps}
 
 -- ---- the requests of a book, none with the number of another, and d tells those that wait no longer

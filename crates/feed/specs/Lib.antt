@@ -3,7 +3,6 @@ pub mod Due
 pub mod Hits
 pub mod Judge
 pub mod Pending
-pub mod Put
 pub mod Steps
 pub mod Sweep
 pub mod Volumes

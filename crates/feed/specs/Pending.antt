@@ -19,7 +19,7 @@ use Rattle.model.specs.Feed.{Fed, applied, submit, submits, traded}
 use Rattle.model.specs.Names.{aSecurity, aTrade}
 use Rattle.model.specs.Rows.{found, hasKey, is, nothing, sameRow, there}
 use Rattle.tables.specs.Names.{by-id}
-use Rattle.feed.specs.Put.{found-has, found-none, found-other, found-same, there-alike, there-other}
+use Rattle.shelf.specs.Put.{found-has, found-none, found-other, found-same, there-alike, there-other}
 use Rattle.feed.specs.Steps.{found-either, found-kept, key-of, there-kept, traded-keeps}
 
 abbrev pub pends : List Row → ℕ → Bool

@@ -17,7 +17,7 @@ use Rattle.record.specs.declared.row.Row.{Row}
 use Rattle.model.specs.Feed.{submit, traded}
 use Rattle.model.specs.Names.{aSecurity, aTrade}
 use Rattle.model.specs.Rows.{found, hasKey, is, nothing, sameRow, there}
-use Rattle.feed.specs.Put.{found-has, found-none, keep-put}
+use Rattle.shelf.specs.Put.{found-has, found-none, keep-put}
 
 -- ---- tests that only rows of one kind pass
 abbrev pub OfKind : ℕ → (Row → Bool) → Type 0

@@ -20,7 +20,7 @@ use Rattle.model.specs.Feed.{Fed, applied, submits, traded, volumesFit}
 use Rattle.model.specs.Names.{aSecurity}
 use Rattle.model.specs.Rows.{found, hasKey, is, nothing, sameRow, there}
 use Rattle.tables.specs.Names.{by-symbol}
-use Rattle.feed.specs.Put.{found-has, found-other, found-same, there-alike}
+use Rattle.shelf.specs.Put.{found-has, found-other, found-same, there-alike}
 use Rattle.feed.specs.Steps.{found-either, found-kept, key-of, submits-keep, there-kept}
 
 -- the shares of the entries on a symbol

@@ -2,18 +2,17 @@
 // each trade that is submitted, and the requests that no longer wait leave last, so that no place that the call frees
 // serves it.
 ghost use mathlib.Core.Path.{_≡_};
-ghost use mathlib.Core.Bool.{cond, false, true};
+ghost use mathlib.Core.Bool.{false, true};
 ghost use mathlib.Core.List.{map};
 ghost use Prim.Native.Nat.{_+_, _≤_, _<_};
 ghost use lib.ListN.{set};
 ghost use Rattle.laws.specs.Change.{put};
 ghost use Rattle.laws.specs.Search.{every, run};
-ghost use Rattle.laws.specs.Sort.{insert};
 ghost use Rattle.rules.specs.Ranges.{volume};
 ghost use Rattle.model.specs.Feed.{applied, traded, triggered};
 ghost use Rattle.model.specs.Names.{aSecurity, aTrade};
 ghost use Rattle.model.specs.Rows.{found, rows, sameRow, there};
-ghost use Rattle.queue.specs.Queue.{ordered, queueMost, queued};
+ghost use Rattle.queue.specs.Queue.{queueMost, queued};
 ghost use Rattle.shelf.specs.Rows.{rowAt};
 ghost use Rattle.tables.specs.Bucket.{steadyBucket};
 ghost use Rattle.tables.specs.Table.{Indexed};
@@ -22,7 +21,7 @@ ghost use Rattle.feed.specs.Sweep.{left};
 use crate::judge::due;
 use crate::judge::hits;
 use queue::Queue;
-use queue::insert;
+use queue::admit;
 use record::codes::Kind;
 use record::codes::TradeStatus;
 use record::row::Grid;
@@ -72,30 +71,6 @@ fn triggered(book: &[u8], steady: &[u16; Slots::ALL], entry: Row, row: Row) -> b
     false
 }
 
-fn gather_one(
-    book: &[u8],
-    steady: &[u16; Slots::ALL],
-    entry: Row,
-    row: Row,
-    times: &mut [u32; Queue::MOST],
-    ids: &mut [u64; Queue::MOST],
-    n: usize,
-) -> usize
-    requires { ⌜ Indexed steadyBucket (now book) (now steady) 0 ⌝ }
-    requires { ⌜ n < queueMost ⌝ }
-    ensures { λ r. ⌜ r ≤ n + 1 ⌝ }
-    ensures { λ r. ⌜ queued (now (times .exit)) (now (ids .exit)) r
-        ≡ cond (triggered (rows (now (book .entry))) entry row)
-        (insert (ordered false) (entry .time, row .id) (queued (now (times .entry)) (now (ids .entry)) n))
-        (queued (now (times .entry)) (now (ids .entry)) n) ⌝ }
-{
-    if triggered(book, steady, entry, row) {
-        insert(times, ids, n, false, entry.time, row.id);
-        return n + 1;
-    }
-    n
-}
-
 // The numbers of the trades that an entry submits, the lowest last.
 fn gather(
     book: &[u8],
@@ -112,7 +87,9 @@ fn gather(
     let mut i = book.len() / Grid::SIZE;
     while 0 < i {
         let j = i - 1;
-        n = gather_one(book, steady, entry, row_at(book, j), times, ids, n);
+        let row = row_at(book, j);
+        let chosen = triggered(book, steady, entry, row);
+        n = admit(times, ids, n, false, chosen, entry.time, row.id);
         i = j;
     }
     n

@@ -3,7 +3,7 @@ use mathlib.Core.Bool.{false}
 use native.Mathlib.Omega.{arith}
 use Rattle.model.specs.Feed.{triggered}
 use Rattle.model.specs.Rows.{rows}
-use Rattle.queue.specs.Gather.{Gathering, gathers}
+use Rattle.queue.specs.Gather.{Gathering, gather-more, gathers}
 use Rattle.queue.specs.Queue.{ordered}
 use Rattle.feed.specs.Apply.{gather-all, mark}
 use borrow.Author.Needs.{needs}
@@ -16,6 +16,13 @@ Inv-loop book steady entry times₀ ids₀ n₀ i₀ times ids n i =
 
 abbrev μ-loop : tie.MeasureT-loop
 μ-loop book steady entry times₀ ids₀ n₀ i₀ times ids n i = i
+
+loop-again : tie.Need-loop-again Inv-loop μ-loop
+loop-again c =
+    let chosen = c .before .before .before in
+    let at = chosen .before .before in
+    gather-more (at .before .loop .inv) _ _ (at .loop-test .taken) (chosen .before .row-at .ensures)
+    (c .admit .ensures .0) (rw (chosen .triggered .ensures) at (c .admit .ensures .1))
 
 returns : tie.Need-returns Inv-loop μ-loop
 returns c =
@@ -33,6 +40,7 @@ gather-spec =
     (λ c. search (needs, gathers))
     (λ c κs. search (needs, gathers))
     (λ c κs. search (needs, gathers))
+    (λ c κs. search (needs, gathers))
     (λ c. search (needs, gathers))
-    (λ c. search (needs, gathers))
+    loop-again
     returns)

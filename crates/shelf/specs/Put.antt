@@ -1,27 +1,28 @@
 -- A row put in the place of another: the place where it comes to stand, and what is found, kept and counted then.
 -- Assumes nothing.
 use mathlib.Core.Path.{_≡_, refl, sym, ap, _∙_}
-use mathlib.Core.Bool.{Bool, true, false}
+use mathlib.Core.Bool.{Bool, true, false, cond}
 use mathlib.Core.List.{List, [], _∷_}
 use Prim.Native.Nat.{ℕ, suc, _+_, _≤_}
 use native.Mathlib.Omega.{arith}
 use lib.Dec.{eqb, leb, ltb}
-use lib.ListN.{length, getD, set, List·getD-eq-default}
+use lib.ListN.{length, drop, getD, set, List·getD-eq-default}
 use lib.Seq.{getD-set-same, getD-set-other, set-out}
-use borrow.Author.Tests.{eq-eqb, eqb-true, eqb-false, ltb-true, ltb-false}
+use borrow.Author.Tests.{lt-ltb, le-ltb, eq-eqb, eqb-true, eqb-false, ltb-true, ltb-false}
 use Rattle.laws.specs.Change.{count-alike, keep-other, put, put-place, put-the, the-other, the-same}
 use Rattle.laws.specs.Digits.{Digit, digits-equal, head-equal}
-use Rattle.laws.specs.Place.{every-at, the-none, the-passes}
+use Rattle.laws.specs.Place.{every-at, seek-suc, the-none, the-passes}
 use Rattle.laws.specs.Search.{count, keep, place, seek}
 use Rattle.laws.specs.Tests.{one-truth}
+use Rattle.laws.specs.Walk.{from-alike}
 use Rattle.record.specs.Codes.{kindFree}
 use Rattle.record.specs.declared.key.Key.{Key}
 use Rattle.record.specs.declared.row.Row.{Row}
 use Rattle.rules.specs.Meaning.{means-free}
 use Rattle.rules.specs.Rules.{as-kind, fits}
-use Rattle.model.specs.Rows.{found, hasKey, is, nothing, sameRow, there}
+use Rattle.model.specs.Rows.{found, hasKey, is, nothing, rows, sameRow, there}
 use Rattle.model.specs.Sound.{s1}
-use Rattle.shelf.specs.Rows.{freeFrom}
+use Rattle.shelf.specs.Rows.{after, freeFrom, rowAt}
 
 -- ---- the test tells equality
 row-eq : {a b : Row} → a .kind ≡ b .kind → a .form ≡ b .form → a .status ≡ b .status → a .flags ≡ b .flags
@@ -210,3 +211,58 @@ module _ (o n : Row) (rs : List Row) where
 
   pub count-put : (p : Row → Bool) → p n ≡ p o → count p (put sameRow o n rs) ≡ count p rs
   count-put p e = count-alike sameRow same-rows p o n e rs
+
+-- after the lowest free place is filled the search goes on behind it
+lowest-next : (n : Row) → is kindFree n ≡ false → (rs : List Row)
+    → freeFrom (set rs (freeFrom rs 0) n) (after rs (freeFrom rs 0)) ≡ freeFrom (set rs (freeFrom rs 0) n) 0
+unfolding seek after
+lowest-next n e [] = refl
+lowest-next n e (x ∷ l) = go (lowest-next n e l) (is kindFree x) refl
+  where
+    p : ℕ
+    p = freeFrom l 0
+
+    up : (t : Bool) → ltb p (length l) ≡ t
+        → cond (ltb (suc p) (suc (length l))) (suc p + 1) (suc p) ≡ suc (cond (ltb p (length l)) (p + 1) p)
+    up true h = rw (lt-ltb (suc p) (suc (length l)) (omega (arith, ltb-true p (length l) h)), h) (omega arith)
+    up false h = rw (le-ltb (suc p) (suc (length l)) (omega (arith, ltb-false p (length l) h)), h)
+
+    go : freeFrom (set l p n) (after l p) ≡ freeFrom (set l p n) 0 → (t : Bool) → is kindFree x ≡ t
+        → freeFrom (set (x ∷ l) (freeFrom (x ∷ l) 0) n) (after (x ∷ l) (freeFrom (x ∷ l) 0))
+        ≡ freeFrom (set (x ∷ l) (freeFrom (x ∷ l) 0) n) 0
+    go ih true h = rw (h, lt-ltb 0 (length (x ∷ l)) (omega arith), e)
+    go ih false h =
+        rw (h, seek-suc (is kindFree) 0 l, up (ltb p (length l)) refl, h, seek-suc (is kindFree) 0 (set l p n))
+        (seek-suc (is kindFree) (after l p) (drop (after l p) (set l p n)) ∙ ap suc ih)
+
+-- ---- rows are added in the places that are free, lowest first
+-- the search for the next free place may begin at `from`
+pub record Free (b : List ℕ) (from : ℕ) : Type 0 where
+  pub clean : Clean (rows b)
+  pub lowest : freeFrom (rows b) from ≡ freeFrom (rows b) 0
+
+pub free-start : (b : List ℕ) → s1 (rows b) ≡ true → Free b 0
+free-start b e = record { clean = clean-fit (rows b) e; lowest = refl }
+
+pub free-add : (b b′ : List ℕ) (from : ℕ) (n : Row) {next : ℕ} → Free b from → is kindFree n ≡ false
+    → next ≡ after (rows b) (freeFrom (rows b) from) → rows b′ ≡ set (rows b) (freeFrom (rows b) from) n
+    → (rows b′ ≡ put sameRow nothing n (rows b)) × Free b′ next
+free-add b b′ from n s e a q =
+    let rs = rows b in
+    let r : rows b′ ≡ set rs (freeFrom rs 0) n = q ∙ rw (s .lowest) in (
+      r ∙ sym (put-free n rs (s .clean)),
+      record {
+        clean = rw r (clean-set rs (freeFrom rs 0) n (s .clean) (eqb-false (n .kind) kindFree e));
+        lowest = rw (r, a, s .lowest) (lowest-next n e rs);
+      },
+    )
+
+-- a row that is not free gives way to another
+pub free-put : (b b′ : List ℕ) (from j : ℕ) (n : Row) → Free b from → is kindFree n ≡ false
+    → is kindFree (rowAt b j) ≡ false → rows b′ ≡ set (rows b) j n → Free b′ from
+free-put b b′ from j n s e o q =
+    let alike = from-alike (is kindFree) nothing (rows b) j n (λ h. e ∙ sym o) in
+    record {
+      clean = rw q (clean-set (rows b) j n (s .clean) (eqb-false (n .kind) kindFree e));
+      lowest = rw q (alike from ∙ s .lowest ∙ sym (alike 0));
+    }
