@@ -75,12 +75,13 @@ pub struct Walk {
 }
 
 impl Walk {
+    // A count below zero needs nothing.
     pub fn start(shares: Shares) -> Walk
         requires { ⌜ up (shares .0) ≤ sharesMost ⌝ }
-        ensures { λ r. ⌜ (seen r ≡ start (up (shares .0))) × (Within (up (shares .0) * priceMost) (seen r)) ⌝ }
+        ensures { λ r. ⌜ r ≡ made (start (up (shares .0))) ⌝ }
     {
         Walk {
-            need: shares,
+            need: units::shares(units::in_shares(shares)),
             bought: Cents(0),
             sold: Cents(0),
         }
