@@ -1,10 +1,10 @@
--- The lots that a trade closes, as marks in a queue: their order is that of their marks, and in a book that keeps S2 the
--- number of a mark finds its lot again. Assumes nothing.
+-- The lots that a trade closes, as marks in a queue: their order is that of their marks, and in a book that keeps S2
+-- the number of a mark finds its lot again; and what the loop over the numbers keeps. Assumes nothing.
 use mathlib.Core.Path.{_≡_, refl, sym, ap, ap₂, subst, _∙_}
-use mathlib.Core.Bool.{Bool, true, false, cond, _&&_}
+use mathlib.Core.Bool.{Bool, true, false, _&&_}
 use mathlib.Core.List.{List, [], _∷_, map, List·Memᴰ}
 use mathlib.Core.Logic.{⊎-elim}
-use Prim.Native.Nat.{ℕ, zero, suc, _+_, _-_, _*_, _≤_, _<_}
+use Prim.Native.Nat.{ℕ, zero, suc, _-_, _*_, _≤_, _<_}
 use native.Mathlib.Nat.{mul-le-mul-right}
 use native.Mathlib.Omega.{arith}
 use lib.Dec.{eqb, leb}

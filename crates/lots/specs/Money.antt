@@ -1,6 +1,6 @@
 -- Tax and commission in numbers of 64 bits: a half is added before the division, and no product leaves its range.
 -- Assumes nothing.
-use mathlib.Core.Path.{_≡_, refl, sym, ap, _∙_}
+use mathlib.Core.Path.{_≡_, sym, _∙_}
 use mathlib.Core.Bool.{Bool, true, false}
 use Prim.Native.Nat.{ℕ, _+_, _-_, _*_, _/_, _≤_, _<_}
 use native.Mathlib.Nat.{mul-le-mul}
@@ -39,14 +39,15 @@ pub tax-none : (status rates bought sold : ℕ) {x : Bool} → x ≡ taxable sta
 unfolding taxOf
 tax-none status rates bought sold e f = rw (sym e ∙ f)
 
-module _ (rate shares price : ℕ) (r : rate ≤ commissionPart .high) (s : shares ≤ sharesMost) (p : price ≤ priceMost) where
-  pub commission-product : rate * shares ≤ commissionPart .high * sharesMost
-  commission-product = mul-le-mul r s
+module _ (rate shares price : ℕ) (r : rate ≤ commissionPart .high) (s : shares ≤ sharesMost) (p : price ≤ priceMost)
+  where
+    pub commission-product : rate * shares ≤ commissionPart .high * sharesMost
+    commission-product = mul-le-mul r s
 
-  pub commission-whole : rate * shares * price ≤ commissionPart .high * sharesMost * priceMost
-  commission-whole = mul-le-mul commission-product p
+    pub commission-whole : rate * shares * price ≤ commissionPart .high * sharesMost * priceMost
+    commission-whole = mul-le-mul commission-product p
 
-  pub commission-taken : ((rate * shares * price + 5_000) / 10_000 ≡ commissionOf rate shares price)
-      × ((rate * shares * price + 5_000) / 10_000 ≤ fee .high)
-  unfolding commissionOf
-  commission-taken = let k = commission-whole in (half-commission (rate * shares * price), omega arith)
+    pub commission-taken : ((rate * shares * price + 5_000) / 10_000 ≡ commissionOf rate shares price)
+        × ((rate * shares * price + 5_000) / 10_000 ≤ fee .high)
+    unfolding commissionOf
+    commission-taken = let k = commission-whole in (half-commission (rate * shares * price), omega arith)

@@ -36,7 +36,12 @@ pub fn tax(status: u8, rates: u64, bought: Cents, sold: Cents) -> Cents
     ensures { λ r. ⌜ r ≡ cents (pos (taxOf status rates (up (bought .0)) (up (sold .0)))) ⌝ }
     ensures { λ r. ⌜ up (r .0) ≤ fee .high ⌝ }
 {
-    units::cents(tax_of(status, rates, units::in_cents(bought), units::in_cents(sold)))
+    units::cents(tax_of(
+        status,
+        rates,
+        units::in_cents(bought),
+        units::in_cents(sold),
+    ))
 }
 
 // There is a gain that is to be taxed, yet the tax is 0.

@@ -2,7 +2,7 @@
 -- needed its values stay in their range. Each number finds its lot since the book keeps S2. The measure is how many are
 -- left. Assumes nothing.
 use borrow.Author.Needs.{needs}
-use mathlib.Core.Path.{ap, refl, _∙_}
+use mathlib.Core.Path.{ap, _∙_}
 use native.Mathlib.Omega.{arith}
 use Rattle.model.specs.Rows.{rows}
 use Rattle.lots.specs.Lots.{Walking, lot-price, walk-all, walk-end, walk-more, walk-room, walk-start}
@@ -31,7 +31,8 @@ loop-holds c =
 step-requires : tie.Need-step-requires Inv-loop μ-loop
 step-requires c κs =
     let first = c .before .before .before .before .before .before .before .before in
-    (walk-room (c .before .before .loop .inv), (first .pre .1 .1 .0, lot-price _ _ (first .pre .1 .0 .0) (c .id-row .ensures)))
+    let price = lot-price _ _ (first .pre .1 .0 .0) (c .id-row .ensures) in
+    (walk-room (c .before .before .loop .inv), (first .pre .1 .1 .0, price))
 
 loop-again : tie.Need-loop-again Inv-loop μ-loop
 loop-again c =

@@ -6,17 +6,20 @@ use Rattle.lots.proofs.money.commission_of.Tie as tie
 
 mul-result : tie.Need-mul-result
 mul-result c =
-    let h = commission-product (c .args .rate) (c .args .shares) (c .args .price) (c .pre .0) (c .pre .1) (c .pre .2) in
+    let a = c .args in
+    let h = commission-product (a .rate) (a .shares) (a .price) (c .pre .0) (c .pre .1) (c .pre .2) in
     record { fits = omega arith }
 
 mul-result-2 : tie.Need-mul-result-2
 mul-result-2 c =
-    let h = commission-whole (c .args .rate) (c .args .shares) (c .args .price) (c .pre .0) (c .pre .1) (c .pre .2) in
+    let a = c .args in
+    let h = commission-whole (a .rate) (a .shares) (a .price) (c .pre .0) (c .pre .1) (c .pre .2) in
     record { fits = omega arith }
 
 add-result : tie.Need-add-result
 add-result c =
-    let h = commission-whole (c .args .rate) (c .args .shares) (c .args .price) (c .pre .0) (c .pre .1) (c .pre .2) in
+    let a = c .args in
+    let h = commission-whole (a .rate) (a .shares) (a .price) (c .pre .0) (c .pre .1) (c .pre .2) in
     record { fits = omega arith }
 
 returns : tie.Need-returns

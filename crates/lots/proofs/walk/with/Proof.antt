@@ -2,13 +2,13 @@
 use borrow.Author.Needs.{needs}
 use native.Mathlib.Omega.{arith}
 use Prim.Native.Nat.{_+_, _*_, _≤_}
-use mathlib.Core.Path.{_≡_}
-use Rattle.record.specs.Signed.{up}
 use Rattle.rules.specs.Ranges.{moneyMost}
 use Rattle.lots.proofs.walk.with.Statement.{statement}
 use Rattle.lots.proofs.walk.with.Tie as tie
 
-fits : (c : tie.After-struct-known) → c .before .before .in-cents .result + c .before .in-shares .result * c .before .before .before .args .price .0 ≤ moneyMost
+fits : (c : tie.After-struct-known)
+    → c .before .before .in-cents .result + c .before .in-shares .result * c .before .before .before .args .price .0
+    ≤ moneyMost
 fits c = rw (c .before .before .in-cents .ensures, c .before .in-shares .ensures) (c .before .before .before .pre)
 
 mul-cents : tie.Need-mul-cents
