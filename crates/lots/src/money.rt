@@ -9,10 +9,20 @@ ghost use Rattle.rules.specs.Ranges.{commissionPart, fee, priceMost, sharesMost
 ghost use Rattle.model.specs.Money.{commissionOf, taxOf, taxable, untaxed};
 ghost use Rattle.lots.specs.Walk.{valueMost};
 use crate::units;
+use kinds::limits::Ranges;
 use kinds::units::Cents;
 use kinds::units::PerTenThousand;
 use kinds::units::Price;
 use kinds::units::Shares;
+
+// The whole that a rate is a part of.
+struct Whole {}
+
+impl Whole {
+    const TAX: u64 = Ranges::RATE_MOST as u64;
+
+    const COMMISSION: u64 = 10_000;
+}
 
 fn taxable(status: u8, bought: u64, sold: u64) -> bool
     ensures { λ r. ⌜ r ≡ taxable status bought sold ⌝ }
@@ -25,7 +35,7 @@ fn tax_of(status: u8, rates: u64, bought: u64, sold: u64) -> u64
     ensures { λ r. ⌜ (r ≡ taxOf status rates bought sold) × (r ≤ fee .high) ⌝ }
 {
     if taxable(status, bought, sold) {
-        return ((sold - bought) * rates + 50_000) / 100_000;
+        return ((sold - bought) * rates + Whole::TAX / 2) / Whole::TAX;
     }
     0
 }
@@ -58,7 +68,7 @@ fn commission_of(rate: u32, shares: u64, price: u32) -> u64
     requires { ⌜ (rate ≤ commissionPart .high) × (shares ≤ sharesMost) × (price ≤ priceMost) ⌝ }
     ensures { λ r. ⌜ (r ≡ commissionOf rate shares price) × (r ≤ fee .high) ⌝ }
 {
-    (rate as u64 * shares * price as u64 + 5_000) / 10_000
+    (rate as u64 * shares * price as u64 + Whole::COMMISSION / 2) / Whole::COMMISSION
 }
 
 pub fn commission(rate: PerTenThousand, shares: Shares, price: Price) -> Cents
