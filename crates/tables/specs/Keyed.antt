@@ -2,18 +2,19 @@
 use mathlib.Core.Path.{_≡_, refl, sym, _∙_}
 use mathlib.Core.Bool.{Bool, true, _&&_}
 use Prim.Native.Nat.{ℕ}
-use lib.Dec.{eqb}
+use lib.Dec.{eqb, leb}
 use borrow.Author.Tests.{eqb-true}
 use Rattle.laws.specs.Tests.{and-left, and-right}
-use Rattle.record.specs.Codes.{kindAccount, kindBroker, kindCash, kindCustomer, kindLot, kindRequest, kindSecurity}
-use Rattle.record.specs.Codes.{kindSettlement, kindSummary, kindTaxRate, kindTrade, kindTradeHistory}
+use Rattle.record.specs.Codes.{kindAccount, kindBand, kindBroker, kindCash, kindCustomer, kindLot, kindRequest}
+use Rattle.record.specs.Codes.{kindSecurity, kindSettlement, kindSummary, kindTaxRate, kindTrade, kindTradeHistory}
 use Rattle.record.specs.Key.{among, keyOf}
 use Rattle.record.specs.declared.row.Row.{Row}
+use Rattle.model.specs.Band.{bandFor}
 use Rattle.model.specs.Names.{aSecurity, aSummary, aTrade, byId, byParty}
 use Rattle.model.specs.Rows.{hasKey, is}
 use Rattle.model.specs.Sound.{lotOf}
 use Rattle.tables.specs.Bucket.{bucketOf, keyBucket, steadyBucket}
-use Rattle.tables.specs.Names.{by-holder, by-id, by-party, by-symbol, idKinds, of-four}
+use Rattle.tables.specs.Names.{by-holder, by-id, by-party, by-symbol, idKinds, of-five, of-four}
 use Rattle.tables.specs.Names.{partyKinds}
 
 -- the rows of p all have the number k
@@ -26,9 +27,8 @@ IdBucket k = (r : Row) → r .kind ≡ k → keyBucket r ≡ bucketOf k 0 0 0 (r
 id-bucket : (k : ℕ) → among k idKinds ≡ true → IdBucket k
 unfolding keyBucket keyOf
 id-bucket k e =
-    of-four IdBucket k kindTrade kindRequest kindSettlement kindCash (λ r h. rw h) (λ r h. rw h) (λ r h. rw h)
-    (λ r h. rw h)
-    e
+    of-five IdBucket k kindTrade kindRequest kindSettlement kindCash kindLot (λ r h. rw h) (λ r h. rw h) (λ r h. rw h)
+    (λ r h. rw h) (λ r h. rw h) e
 
 abbrev PartyBucket : ℕ → Type 0
 PartyBucket k = (r : Row) → r .kind ≡ k → keyBucket r ≡ bucketOf k 0 0 (r .party) 0 0
@@ -43,6 +43,14 @@ party-bucket k e =
 both-eq : (a x b y : ℕ) → (eqb a x && eqb b y) ≡ true → (a ≡ x) × (b ≡ y)
 both-eq a x b y e =
     (eqb-true a x (and-left (eqb a x) (eqb b y) e), eqb-true b y (and-right (eqb a x) (eqb b y) e))
+
+-- of the tests of a band, those that tell its bucket
+pub band-tests : (kind form tier exchange x y : Bool) → (kind && form && tier && exchange && x && y) ≡ true
+    → (kind ≡ true) × (form ≡ true) × (exchange ≡ true)
+band-tests k f t g x y e =
+    let h = and-left (k && f && t && g) x (and-left (k && f && t && g && x) y e) in
+    let kf = and-left (k && f) t (and-left (k && f && t) g h) in
+    (and-left k f kf, and-right k f kf, and-right (k && f && t) g h)
 
 pub lot-bucket : (a s : ℕ) (r : Row) → lotOf a s r ≡ true → steadyBucket r ≡ bucketOf kindLot 0 0 a 0 s
 unfolding steadyBucket
@@ -94,3 +102,14 @@ holder-bucket a s r e =
 
 pub holder-keyed : (a s : ℕ) → Keyed keyBucket (hasKey (aSummary a s)) (bucketOf kindSummary 0 0 a 0 s)
 holder-keyed a s = record { all = holder-bucket a s }
+
+holding-bucket : (f t x n : ℕ) (r : Row) → bandFor f t x n r ≡ true → keyBucket r ≡ bucketOf kindBand f x 0 0 0
+unfolding keyBucket keyOf
+holding-bucket f t x n r e =
+    let h = band-tests (is kindBand r) (eqb (r .form) f) (eqb (r .status) t) (eqb (r .flags) x) (leb (r .n1) n)
+    (leb n (r .n2)) e
+    in
+    rw (eqb-true (r .kind) kindBand (h .0), eqb-true (r .form) f (h .1), eqb-true (r .flags) x (h .2))
+
+pub band-keyed : (f t x n : ℕ) → Keyed keyBucket (bandFor f t x n) (bucketOf kindBand f x 0 0 0)
+band-keyed f t x n = record { all = holding-bucket f t x n }

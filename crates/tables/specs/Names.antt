@@ -7,7 +7,7 @@ use Prim.Native.Nat.{ℕ}
 use lib.Dec.{eqb}
 use borrow.Author.Tests.{eqb-true}
 use Rattle.laws.specs.Tests.{and-assoc, or-cases}
-use Rattle.record.specs.Codes.{kindAccount, kindBroker, kindCash, kindCustomer, kindRequest, kindSecurity}
+use Rattle.record.specs.Codes.{kindAccount, kindBroker, kindCash, kindCustomer, kindLot, kindRequest, kindSecurity}
 use Rattle.record.specs.Codes.{kindSettlement, kindSummary, kindTaxRate, kindTrade, kindTradeHistory}
 use Rattle.record.specs.Key.{among, keyOf, sameKey}
 use Rattle.record.specs.declared.key.Key.{Key}
@@ -25,25 +25,30 @@ abbrev pub ofSymbol : ℕ → ℕ → Row → Bool
 ofSymbol kind symbol r = is kind r && eqb (r .symbol) symbol
 
 abbrev pub idKinds : List ℕ
-idKinds = kindTrade ∷ kindRequest ∷ kindSettlement ∷ kindCash ∷ []
+idKinds = kindTrade ∷ kindRequest ∷ kindSettlement ∷ kindCash ∷ kindLot ∷ []
 
 abbrev pub partyKinds : List ℕ
 partyKinds = kindBroker ∷ kindCustomer ∷ kindTaxRate ∷ kindAccount ∷ []
 
--- what holds at each of four kinds holds at one that is among them
+-- what holds at a kind holds at one that is equal to it, and so at one that is among four or five
+at-equal : (P : ℕ → Type 0) (k n : ℕ) → P n → eqb k n ≡ true → P k
+at-equal P k n p x = subst P (sym (eqb-true k n x)) p
+
 pub of-four : (P : ℕ → Type 0) (k a b c d : ℕ) → P a → P b → P c → P d
     → among k (a ∷ b ∷ c ∷ d ∷ []) ≡ true → P k
 of-four P k a b c d pa pb pc pd e =
     ⊎-elim
     (λ abc. ⊎-elim
-    (λ ab. ⊎-elim (λ x. at a pa x) (λ x. at b pb x) (or-cases (eqb k a) (eqb k b) ab))
-    (λ x. at c pc x)
+    (λ ab. ⊎-elim (at-equal P k a pa) (at-equal P k b pb) (or-cases (eqb k a) (eqb k b) ab))
+    (at-equal P k c pc)
     (or-cases (eqb k a || eqb k b) (eqb k c) abc))
-    (λ x. at d pd x)
+    (at-equal P k d pd)
     (or-cases (eqb k a || eqb k b || eqb k c) (eqb k d) e)
-  where
-    at : (n : ℕ) → P n → eqb k n ≡ true → P k
-    at n p x = subst P (sym (eqb-true k n x)) p
+
+pub of-five : (P : ℕ → Type 0) (k a b c d f : ℕ) → P a → P b → P c → P d → P f
+    → among k (a ∷ b ∷ c ∷ d ∷ f ∷ []) ≡ true → P k
+of-five P k a b c d f pa pb pc pd pf e =
+    ⊎-elim (of-four P k a b c d pa pb pc pd) (at-equal P k f pf) (or-cases (among k (a ∷ b ∷ c ∷ d ∷ [])) (eqb k f) e)
 
 -- a row has a key where its kind is the key's and what is left of the key fits
 of-kind : (r : Row) (k : Key) (x : Bool) → (r .kind ≡ k .kind → sameKey (keyOf r) k ≡ x)
@@ -74,11 +79,12 @@ ById k = (i : ℕ) (r : Row) → hasKey (byId k i) r ≡ ofId k i r
 pub by-id : (k : ℕ) → among k idKinds ≡ true → ById k
 unfolding sameKey keyOf
 by-id k e =
-    of-four ById k kindTrade kindRequest kindSettlement kindCash
+    of-five ById k kindTrade kindRequest kindSettlement kindCash kindLot
     (λ i r. of-kind r (byId kindTrade i) (eqb (r .id) i) (λ h. rw h (last-three (eqb (r .id) i))))
     (λ i r. of-kind r (byId kindRequest i) (eqb (r .id) i) (λ h. rw h (last-three (eqb (r .id) i))))
     (λ i r. of-kind r (byId kindSettlement i) (eqb (r .id) i) (λ h. rw h (last-three (eqb (r .id) i))))
     (λ i r. of-kind r (byId kindCash i) (eqb (r .id) i) (λ h. rw h (last-three (eqb (r .id) i))))
+    (λ i r. of-kind r (byId kindLot i) (eqb (r .id) i) (λ h. rw h (last-three (eqb (r .id) i))))
     e
 
 abbrev ByParty : ℕ → Type 0

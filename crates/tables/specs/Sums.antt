@@ -29,7 +29,7 @@ use Rattle.tables.specs.Bucket.{bucketOf, keyBucket, steadyBucket}
 use Rattle.tables.specs.Names.{by-status, ofId, ofParty}
 use Rattle.laws.specs.Place.{every-at}
 use Rattle.tables.specs.Table.{Counted}
-use Rattle.tables.specs.Keyed.{Keyed, history-bucket, lot-bucket}
+use Rattle.tables.specs.Keyed.{Keyed, band-tests, history-bucket, lot-bucket}
 
 -- what f gives of the rows of p, and nothing of any other, is counted by their number
 only-keyed : (g : Row → ℕ) (p : Row → Bool) (f : Row → ℕ) (m k : ℕ) → Keyed g p k
@@ -44,17 +44,14 @@ only-keyed g p f m k a z = record { none = λ r e. go r e (p r) refl }
 band-bucket : (a r : Row) → overlaps a r ≡ true → keyBucket r ≡ bucketOf kindBand (a .form) (a .flags) 0 0 0
 unfolding keyBucket keyOf
 band-bucket a r e =
-    let k = is kindBand r in
-    let f = eqb (a .form) (r .form) in
-    let s = eqb (a .status) (r .status) in
-    let g = eqb (a .flags) (r .flags) in
-    let x = leb (a .n1) (r .n2) in
-    let h = and-left (k && f && s && g) x (and-left (k && f && s && g && x) (leb (r .n1) (a .n2)) e) in
-    let kfs = and-left (k && f && s) g h in
-    let kf = and-left (k && f) s kfs in
-    let same-form = eqb-true (a .form) (r .form) (and-right k f kf) in
-    let same-flags = eqb-true (a .flags) (r .flags) (and-right (k && f && s) g h) in
-    rw (eqb-true (r .kind) kindBand (and-left k f kf), same-form, same-flags)
+    let h = band-tests (is kindBand r) (eqb (a .form) (r .form)) (eqb (a .status) (r .status))
+    (eqb (a .flags) (r .flags)) (leb (a .n1) (r .n2)) (leb (r .n1) (a .n2)) e
+    in
+    rw (
+      eqb-true (r .kind) kindBand (h .0),
+      eqb-true (a .form) (r .form) (h .1),
+      eqb-true (a .flags) (r .flags) (h .2),
+    )
 
 pub bands-counted : (a : Row)
     → Counted keyBucket (λ r. bit (overlaps a r)) 1 (bucketOf kindBand (a .form) (a .flags) 0 0 0)

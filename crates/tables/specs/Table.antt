@@ -11,7 +11,7 @@ use lib.ListN.{length, drop, getD, set, replicate, length-set, length-replicate,
 use lib.Dec.{leb, ltb}
 use borrow.Author.Tests.{eq-eqb, eqb-true, eqb-false}
 use Rattle.laws.specs.Chain.{Chained, chain-start, chain-more, chain-put, numbered}
-use Rattle.laws.specs.Search.{count, place, seek, total}
+use Rattle.laws.specs.Search.{count, place, seek, the, total}
 use Rattle.laws.specs.Walk.{from, from-high, from-holds, from-low, from-passes, from-skips, left-next, left-none}
 use Rattle.record.specs.Key.{keyOf}
 use Rattle.record.specs.KeyLaws.{same-keys}
@@ -22,7 +22,7 @@ use Rattle.shelf.specs.Loop.{Sought, seek-found, seek-more, seek-none}
 use Rattle.shelf.specs.Rows.{length-rows, rowAt}
 use Rattle.tables.specs.Bucket.{bucketOfKey, headCount, keyBucket}
 use Rattle.laws.specs.Place.{some-place, the-place}
-use Rattle.tables.specs.Keyed.{Keyed, holder-keyed, id-keyed, party-keyed, symbol-keyed, trade-keyed}
+use Rattle.tables.specs.Keyed.{Keyed, band-keyed, holder-keyed, id-keyed, party-keyed, symbol-keyed, trade-keyed}
 
 -- the heads of the buckets, and after them a link for each place
 abbrev pub tableSize : ℕ
@@ -171,10 +171,14 @@ pub key-there : (k : Key) (b : List ℕ) {x : ℕ} → x ≡ place (hasKey k) (r
 unfolding there
 key-there k b e = there-is (hasKey k) b e
 
+pub place-row : (p : Row → Bool) (b : List ℕ) {x : ℕ} {r : Row} → x ≡ place p (rows b) → r ≡ rowAt b x
+    → r ≡ the p nothing (rows b)
+place-row p b e h = h ∙ rw e (sym (the-place p nothing (rows b)))
+
 pub key-row : (k : Key) (b : List ℕ) {x : ℕ} {r : Row} → x ≡ place (hasKey k) (rows b) → r ≡ rowAt b x
     → r ≡ found k (rows b)
 unfolding found
-key-row k b e h = h ∙ rw e (sym (the-place (hasKey k) nothing (rows b)))
+key-row k b e h = place-row (hasKey k) b e h
 
 key-keyed : (k : Key) → Keyed keyBucket (hasKey k) (bucketOfKey k)
 unfolding keyBucket hasKey
@@ -259,6 +263,7 @@ pub ruleset tables = (
   probe-found,
   probe-none,
   probe-more,
+  band-keyed,
   holder-keyed,
   id-keyed,
   party-keyed,

@@ -15,7 +15,7 @@ pub fn held(account: u32, symbol: u64, r: Row) -> bool
     (r.kind == Kind::LOT) & (r.party == account) & (r.symbol == symbol)
 }
 
-// A trade, request, settlement or cash row by its number.
+// A trade, request, settlement, cash row or lot by its number.
 pub fn of_id(kind: u8, id: u64, r: Row) -> bool
     requires { ⌜ among kind idKinds ≡ true ⌝ }
     ensures { λ b. ⌜ b ≡ hasKey (byId kind id) r ⌝ }

@@ -1,0 +1,226 @@
+-- The lots that a trade closes, as marks in a queue: their order is that of their marks, and in a book that keeps S2
+-- the number of a mark finds its lot again; and what the loop over the numbers keeps. Assumes nothing.
+use mathlib.Core.Path.{_≡_, refl, sym, ap, ap₂, subst, _∙_}
+use mathlib.Core.Bool.{Bool, true, false, _&&_}
+use mathlib.Core.List.{List, [], _∷_, map, List·Memᴰ}
+use mathlib.Core.Logic.{⊎-elim}
+use Prim.Native.Nat.{ℕ, zero, suc, _-_, _*_, _≤_, _<_}
+use native.Mathlib.Nat.{mul-le-mul-right}
+use native.Mathlib.Omega.{arith}
+use lib.Dec.{eqb, leb}
+use lib.ListN.{length, getD}
+use borrow.Author.Tests.{eq-eqb, eqb-true, le-leb, le-ltb, leb-false, leb-true, ltb-true}
+use mir.Facts.{toZ-pos}
+use mir.Syntax.{w64}
+use Rattle.laws.specs.Keep.{count-has, count-one, keep-from, map-on, the-has}
+use Rattle.laws.specs.Place.{every-at, some-place, the-none, the-passes, the-place}
+use Rattle.laws.specs.Search.{count, keep, place, run, the}
+use Rattle.laws.specs.Sort.{sort, sort-map, sort-map-of}
+use Rattle.laws.specs.Tests.{_⇔_, and-both, and-left}
+use Rattle.record.specs.Codes.{kindLot}
+use Rattle.record.specs.Key.{keyOf}
+use Rattle.record.specs.KeyLaws.{same-keys}
+use Rattle.record.specs.Signed.{toZ-high}
+use Rattle.record.specs.declared.row.Row.{Row}
+use Rattle.rules.specs.Meaning.{means-lot}
+use Rattle.rules.specs.Ranges.{priceMost, sharesMost}
+use Rattle.rules.specs.Rules.{as-kind, fits}
+use Rattle.model.specs.Flags.{lifo}
+use Rattle.model.specs.Lots.{before, closes, lotsFor, start, step, walk}
+use Rattle.model.specs.Lots
+use Rattle.model.specs.Money.{buys}
+use Rattle.model.specs.Names.{aLot}
+use Rattle.model.specs.Rows.{found, hasKey, is, nothing}
+use Rattle.model.specs.Sound.{lotOf, s1, s2, short}
+use Rattle.model.specs.SoundMeans.{means-s2}
+use Rattle.queue.specs.Queue.{Mark, ordered, queueMost, queued, sooner}
+use Rattle.tables.specs.Names.{by-id}
+use Rattle.lots.specs.declared.walk.Walk.{Walk}
+use Rattle.lots.specs.Walk.{Within, made, seen, step-within, valueMost}
+
+abbrev pub mark : Row → Mark
+mark l = (l .time, l .id)
+
+-- the order of lots is that of their marks
+same-order : (last : Bool) (a b : Row) → before last a b ≡ ordered last (mark a) (mark b)
+unfolding sooner
+same-order last a b = refl
+
+pub marks-of : (rs : List Row) (form flags account symbol : ℕ) {falling : Bool} → falling ≡ lifo flags
+    → sort (ordered falling) (map mark (keep (closes form account symbol) rs))
+    ≡ map mark (lotsFor rs form flags account symbol)
+unfolding lotsFor
+marks-of rs form flags account symbol e =
+    rw e (sym (sort-map mark (before (lifo flags)) (ordered (lifo flags)) (same-order (lifo flags))
+    (keep (closes form account symbol) rs)))
+
+-- ---- the lot of a number
+own-number : (i : ℕ) (r : Row) → is kindLot r ≡ true → r .id ≡ i → hasKey (aLot i) r ≡ true
+own-number i r k e =
+    by-id kindLot refl i r ∙ and-both (is kindLot r) (eqb (r .id) i) k (eq-eqb (r .id) i e)
+
+module _ (rs : List Row) (unique : s2 rs ≡ true) where
+  one-number : (r : Row) → List·Memᴰ r rs → is kindLot r ≡ true → count (hasKey (aLot (r .id))) rs ≤ 1
+  unfolding hasKey
+  one-number r m k =
+      let e : keyOf r ≡ aLot (r .id) = same-keys (keyOf r) (aLot (r .id)) (own-number (r .id) r k refl) in
+      ⊎-elim
+      (λ f. absurd (let q = eqb-true (r .kind) kindLot k in omega arith))
+      (λ c. let z : count (hasKey (aLot (r .id))) rs ≡ 1 = rw e at c in omega arith)
+      (means-s2 rs .shows unique r m)
+
+  found-again : (r : Row) → List·Memᴰ r rs → is kindLot r ≡ true → found (aLot (r .id)) rs ≡ r
+  unfolding found
+  found-again r m k =
+      let p = hasKey (aLot (r .id)) in
+      let own = own-number (r .id) r k refl in
+      let some = le-leb 1 (count p rs) (count-has p r rs m own) in
+      count-one p (the p nothing rs) r rs (one-number r m k) (the-has p nothing rs some) m
+      (the-passes p nothing rs some) own
+
+-- ---- a lot is short from the half of the bits on
+pub short-bits : (l : Row) → leb 9223372036854775808 (l .m1) ≡ short l
+short-bits l = go (leb 9223372036854775808 (l .m1)) refl
+  where
+    go : (t : Bool) → leb 9223372036854775808 (l .m1) ≡ t → leb 9223372036854775808 (l .m1) ≡ short l
+    go true e = rw (e, toZ-high w64 (l .m1) (leb-true 9223372036854775808 (l .m1) e))
+    go false e = let h = leb-false 9223372036854775808 (l .m1) e in
+        rw (e, toZ-pos w64 {n = l .m1} (omega arith)) (sym (le-ltb (l .m1) 0 (omega arith)))
+
+-- ---- the lots of the numbers
+unfoldable pub lotsAt : List Row → List ℕ → ℕ → List Row
+lotsAt rs ids zero = []
+lotsAt rs ids (suc n) = found (aLot (getD ids n 0)) rs ∷ lotsAt rs ids n
+
+lots-last : (rs : List Row) (ids : List ℕ) (n : ℕ) → 0 < n
+    → lotsAt rs ids n ≡ found (aLot (getD ids (n - 1) 0)) rs ∷ lotsAt rs ids (n - 1)
+unfolding lotsAt
+lots-last rs ids zero h = absurd (omega arith)
+lots-last rs ids (suc n) h = let e : suc n - 1 ≡ n = omega arith in rw e
+
+lots-queued : (rs : List Row) (times ids : List ℕ) (n : ℕ) (ls : List Row) → queued times ids n ≡ map mark ls
+    → lotsAt rs ids n ≡ map (λ (l : Row). found (aLot (l .id)) rs) ls
+unfolding lotsAt queued
+lots-queued rs times ids n ls e = by-mark n ∙ ap (map (λ (m : Mark). found (aLot (m .1)) rs)) e ∙ each ls
+  where
+    by-mark : (n : ℕ) → lotsAt rs ids n ≡ map (λ (m : Mark). found (aLot (m .1)) rs) (queued times ids n)
+    by-mark zero = refl
+    by-mark (suc n) = rw (by-mark n)
+
+    each : (ls : List Row) → map (λ (m : Mark). found (aLot (m .1)) rs) (map mark ls)
+        ≡ map (λ (l : Row). found (aLot (l .id)) rs) ls
+    each [] = refl
+    each (l ∷ ls) = rw (each ls)
+
+map-same : (l : List Row) → map (λ (r : Row). r) l ≡ l
+map-same [] = refl
+map-same (x ∷ l) = rw (map-same l)
+
+module _ (rs : List Row) (unique : s2 rs ≡ true) (form flags account symbol : ℕ) where
+  abbrev again : Row → Row
+  again l = found (aLot (l .id)) rs
+
+  a-lot : (l : Row) → List·Memᴰ l (keep (closes form account symbol) rs) → again l ≡ l
+  a-lot l m =
+      let k = keep-from (closes form account symbol) l rs m in
+      let held = and-left (lotOf account symbol l) (buys form ⇔ short l) (k .1) in
+      found-again rs unique l (k .0) (and-left (is kindLot l) (eqb (l .party) account)
+      (and-left (is kindLot l && eqb (l .party) account) (eqb (l .symbol) symbol) held))
+
+  -- each lot is found by its number
+  pub lots-again : map (λ (l : Row). found (aLot (l .id)) rs) (lotsFor rs form flags account symbol)
+      ≡ lotsFor rs form flags account symbol
+  unfolding lotsFor
+  lots-again =
+      let o = before (lifo flags) in
+      let ks = keep (closes form account symbol) rs in
+      sort-map-of again o o ks (λ a b m n. ap₂ o (sym (a-lot a m)) (sym (a-lot b n)))
+      ∙ ap (sort o) (map-on again (λ r. r) ks a-lot ∙ map-same ks)
+
+-- the price of a lot is in its range, and so is that of none
+pub lot-price : (rs : List Row) (i : ℕ) {r : Row} → s1 rs ≡ true → r ≡ found (aLot i) rs → r .n1 ≤ priceMost
+unfolding s1 found
+lot-price rs i {r} e q = go (leb 1 (count p rs)) refl
+  where
+    p : Row → Bool
+    p = hasKey (aLot i)
+
+    go : (t : Bool) → leb 1 (count p rs) ≡ t → r .n1 ≤ priceMost
+    go true h =
+        let inside = ltb-true (place p rs) (length rs) (sym (some-place p rs) ∙ h) in
+        let z : r ≡ getD rs (place p rs) nothing = q ∙ the-place p nothing rs in
+        let f : fits r ≡ true = rw z (every-at fits nothing rs (place p rs) e inside) in
+        let own : (is kindLot r && eqb (r .id) i) ≡ true =
+        sym (by-id kindLot refl i r) ∙ rw q (the-passes p nothing rs h)
+        in
+        let k = eqb-true (r .kind) kindLot (and-left (is kindLot r) (eqb (r .id) i) own) in
+        means-lot r .shows (as-kind kindLot r k ∙ f) .0 .0 .0 .2 .2 .2 .2 .2 .2 .2 .1
+    go false h = let z : r ≡ nothing = q ∙ the-none p nothing rs h in rw z (omega arith)
+
+-- ---- a walk over the lots of the first n numbers has come to w, from the lots of all n₀ and w₀
+pub record Walking (form price : ℕ) (rs : List Row) (ids : List ℕ) (n₀ : ℕ) (w₀ : Walk) (n : ℕ) (w : Walk)
+    : Type 0 where
+  pub same : run (step form price) (seen w) (lotsAt rs ids n) ≡ run (step form price) (seen w₀) (lotsAt rs ids n₀)
+  pub exact : w ≡ made (seen w)
+  pub room : Within (seen w₀ .need * priceMost) (seen w)
+  pub small : seen w₀ .need ≤ sharesMost
+  pub few : n ≤ queueMost
+
+pub walk-start : (form price : ℕ) (rs : List Row) (ids : List ℕ) {n₀ : ℕ} {w₀ : Walk} (s : ℕ) → w₀ ≡ made (start s)
+    → s ≤ sharesMost → n₀ ≤ queueMost → Walking form price rs ids n₀ w₀ n₀ w₀
+walk-start form price rs ids s e h k = record {
+  same = refl;
+  exact = rw e;
+  room = rw e (omega arith, omega arith);
+  small = rw e h;
+  few = k;
+}
+
+module _ {form price : ℕ} {rs : List Row} {ids : List ℕ} {n₀ : ℕ} {w₀ : Walk} {n : ℕ} {w : Walk}
+    (s : Walking form price rs ids n₀ w₀ n w) where
+  pub walk-room : Within valueMost (seen w)
+  walk-room =
+      let k = mul-le-mul-right priceMost (s .small) in
+      let a = s .room .0 in
+      let b = s .room .1 in
+      (omega arith, omega arith)
+
+  pub walk-more : {r : Row} {w′ : Walk} → 0 < n → r ≡ found (aLot (getD ids (n - 1) 0)) rs
+      → w′ ≡ made (step form price (seen w) r) → price ≤ priceMost → s1 rs ≡ true
+      → Walking form price rs ids n₀ w₀ (n - 1) w′
+  unfolding run
+  walk-more {r} {w′} h a e p f =
+      let t = s .few in
+      let seen-next : seen w′ ≡ step form price (seen w) r = rw e in
+      record {
+        same =
+            ap (λ (x : Lots.Walk). run (step form price) x (lotsAt rs ids (n - 1)))
+            (seen-next ∙ ap (step form price (seen w)) a)
+            ∙ sym (ap (run (step form price) (seen w)) (lots-last rs ids n h))
+            ∙ s .same;
+        exact = rw e;
+        room =
+            subst (Within (seen w₀ .need * priceMost)) (sym seen-next)
+            (step-within (seen w₀ .need * priceMost) form price (seen w) r p
+            (lot-price rs (getD ids (n - 1) 0) f a) (s .room));
+        small = s .small;
+        few = omega arith;
+      }
+
+  pub walk-end : n ≤ 0 → w ≡ made (run (step form price) (seen w₀) (lotsAt rs ids n₀))
+  unfolding run lotsAt
+  walk-end h =
+      let z : n ≡ 0 = omega arith in
+      let e : run (step form price) (seen w) (lotsAt rs ids 0) ≡ run (step form price) (seen w₀) (lotsAt rs ids n₀) =
+      rw z at (s .same)
+      in
+      s .exact ∙ ap made e
+
+-- what the walk over all of them is
+pub walk-all : (form price : ℕ) (rs : List Row) (times ids : List ℕ) (n s flags account symbol : ℕ) {w : Walk}
+    → s2 rs ≡ true → queued times ids n ≡ map mark (lotsFor rs form flags account symbol) → w ≡ made (start s)
+    → run (step form price) (seen w) (lotsAt rs ids n) ≡ walk form price s (lotsFor rs form flags account symbol)
+unfolding walk
+walk-all form price rs times ids n s flags account symbol u q e =
+    rw e (ap (run (step form price) (start s))
+    (lots-queued rs times ids n (lotsFor rs form flags account symbol) q ∙ lots-again rs u form flags account symbol))

@@ -1,0 +1,86 @@
+-- The walk as the code has it: its values are never below zero, and with what is still needed at the highest price they
+-- stay below a bound. Assumes nothing.
+use mathlib.Core.Path.{_≡_, refl}
+use mathlib.Core.Bool.{Bool, true, false, cond}
+use Prim.Native.Nat.{ℕ, _+_, _-_, _*_, _≤_, _<_}
+use native.Mathlib.Nat.{mul-le-mul-left}
+use native.Mathlib.Omega.{arith}
+use lib.IntN.{ℤ, pos, negsuc, natAbs}
+use lib.Signed.{ltZ}
+use borrow.Author.Tests.{ltb-true}
+use mir.Facts.{toZ-pos}
+use mir.Syntax.{w64}
+use Rattle.record.specs.Signed.{toZ-high, up}
+use Rattle.record.specs.declared.row.Row.{Row}
+use Rattle.kinds.specs.Units.{cents, shares}
+use Rattle.kinds.specs.declared.units.Price.{Price}
+use Rattle.kinds.specs.declared.units.Shares.{Shares}
+use Rattle.rules.specs.Ranges.{moneyMost, priceMost, sharesMost}
+use Rattle.model.specs.Lots
+use Rattle.model.specs.Money.{buys}
+use Rattle.lots.specs.declared.walk.Walk.{Walk}
+
+pub up-below : (z : ℤ) → ltZ z (pos 0) ≡ true → 0 ≡ up z
+up-below (pos n) e = let h : ⊥ = omega (arith, ltb-true n 0 e) in absurd h
+up-below (negsuc n) e = refl
+
+pub up-above : (z : ℤ) → ltZ z (pos 0) ≡ false → natAbs z ≡ up z
+up-above (pos n) e = refl
+up-above (negsuc n) e = let z : _≡_ {A = ℕ} 0 1 = cc in absurd {A = natAbs (negsuc n) ≡ 0} (omega arith)
+
+-- the shares of a lot by the bits
+pub size-above : (l : Row) → l .m1 < 9223372036854775808 → l .m1 ≡ Lots.size l
+size-above l h = let e = toZ-pos w64 {n = l .m1} h in rw e
+
+pub size-below : (l : Row) → 9223372036854775808 ≤ l .m1 → l .m1 ≤ 18446744073709551615
+    → 18446744073709551615 - l .m1 + 1 ≡ Lots.size l
+size-below l h k = let e = toZ-high w64 (l .m1) h in rw e (omega arith)
+
+-- the most that a walk can hold
+abbrev pub valueMost : ℕ
+valueMost = sharesMost * priceMost
+
+abbrev pub seen : Walk → Lots.Walk
+seen w = record {
+  need = up (w .need .0);
+  bought = up (w .bought .0);
+  sold = up (w .sold .0);
+}
+
+abbrev pub made : Lots.Walk → Walk
+made w = record {
+  need = shares (pos (w .need));
+  bought = cents (pos (w .bought));
+  sold = cents (pos (w .sold));
+}
+
+-- the values, with all that is still needed at the highest price, are at most v
+abbrev pub Within : ℕ → Lots.Walk → Type 0
+Within v w = (w .bought + w .need * priceMost ≤ v) × (w .sold + w .need * priceMost ≤ v)
+
+-- the shares that are taken are needed, and are in their range
+pub step-part : (w : Lots.Walk) (l : Row) {t : Shares} → Within valueMost w → t ≡ shares (pos (Lots.taken (w .need) l))
+    → (up (t .0) ≤ w .need) × (w .need ≤ sharesMost)
+step-part w l h e = let a = h .0 in (rw e (omega arith), omega arith)
+
+-- at one of two prices they are worth at most what they were at the highest
+worth : (t : Bool) (k a b : ℕ) → a ≤ priceMost → b ≤ priceMost → k * cond t a b ≤ k * priceMost
+worth true k a b p q = mul-le-mul-left k p
+worth false k a b p q = mul-le-mul-left k q
+
+pub step-fits : (x : Bool) (v n a b : ℕ) (l : Row) {t : Shares} {e : Price} → t ≡ shares (pos (Lots.taken n l))
+    → e .0 ≡ cond x a b → a ≤ priceMost → b ≤ priceMost → v + n * priceMost ≤ valueMost
+    → v + up (t .0) * e .0 ≤ moneyMost
+step-fits x v n a b l d e p q h =
+    let k = worth x (Lots.taken n l) a b p q in
+    rw (d, e) (omega arith)
+
+pub step-within : (v form price : ℕ) (w : Lots.Walk) (l : Row) → price ≤ priceMost → l .n1 ≤ priceMost → Within v w
+    → Within v (Lots.step form price w l)
+step-within v form price w l p q h =
+    let k = Lots.taken (w .need) l in
+    let b = worth (buys form) k price (l .n1) p q in
+    let s = worth (buys form) k (l .n1) price q p in
+    let x = h .0 in
+    let y = h .1 in
+    (omega arith, omega arith)

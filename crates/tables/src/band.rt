@@ -1,0 +1,64 @@
+// The commission band of a trade.
+ghost use mathlib.Core.Path.{_≡_};
+ghost use Rattle.laws.specs.Search.{place, the};
+ghost use Rattle.model.specs.Band.{bandFor};
+ghost use Rattle.model.specs.Rows.{nothing, rows};
+ghost use Rattle.tables.specs.Bucket.{keyBucket};
+ghost use Rattle.tables.specs.Table.{Indexed};
+use crate::bucket::bucket;
+use crate::table::Slots;
+use crate::table::wide;
+use record::codes::Kind;
+use record::row::Grid;
+use record::row::Row;
+use shelf::place::row_at;
+
+fn holds(form: u8, tier: u8, exchange: u8, shares: u32, r: Row) -> bool
+    ensures { λ b. ⌜ b ≡ bandFor form tier exchange shares r ⌝ }
+{
+    (r.kind == Kind::BAND)
+        & (r.form == form)
+        & (r.status == tier)
+        & (r.flags == exchange)
+        & (r.n1 <= shares)
+        & (shares <= r.n2)
+}
+
+fn band_at(
+    book: &[u8],
+    keys: &[u16; Slots::ALL],
+    form: u8,
+    tier: u8,
+    exchange: u8,
+    shares: u32,
+) -> usize
+    requires { ⌜ Indexed keyBucket (now book) (now keys) 0 ⌝ }
+    ensures { λ r. ⌜ r ≡ place (bandFor form tier exchange shares) (rows (now (book .entry))) ⌝ }
+{
+    let n = book.len() / Grid::SIZE;
+    let h = bucket(Kind::BAND, form, exchange, 0, 0, 0);
+    let mut c = wide(keys[h]);
+    while c < n {
+        if holds(form, tier, exchange, shares, row_at(book, c)) {
+            return c;
+        }
+        let s = Slots::HEADS + c;
+        c = wide(keys[s]);
+    }
+    c
+}
+
+// The band that holds the shares, nothing where there is none.
+pub fn band(
+    book: &[u8],
+    keys: &[u16; Slots::ALL],
+    form: u8,
+    tier: u8,
+    exchange: u8,
+    shares: u32,
+) -> Row
+    requires { ⌜ Indexed keyBucket (now book) (now keys) 0 ⌝ }
+    ensures { λ r. ⌜ r ≡ the (bandFor form tier exchange shares) nothing (rows (now (book .entry))) ⌝ }
+{
+    row_at(book, band_at(book, keys, form, tier, exchange, shares))
+}
