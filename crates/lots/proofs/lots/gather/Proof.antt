@@ -22,8 +22,8 @@ loop-again c =
     let left = c .before .before .before in
     let at = left .before .before in
     gather-more (at .before .loop .inv) _ _ (at .loop-test .taken) (left .before .row-at .ensures)
-    (c .admit .ensures .1)
-    (rw (left .closes .ensures) at (c .admit .ensures .0))
+    (c .admit .ensures .0)
+    (rw (left .closes .ensures) at (c .admit .ensures .1))
 
 returns : tie.Need-returns Inv-loop μ-loop
 returns c =
