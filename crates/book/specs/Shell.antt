@@ -88,7 +88,8 @@ module _ (inputs : Bool) (b : List ℕ) {x : Bool} (h : x ≡ wholeRecords mostR
     unfolding opening
     unsound-book f = (rw (rule-kept h e, rule-lost g f), λ z. absurd (never z))
 
-    pub bad-input : not y ≡ false → inputs ≡ false → (BadInput ≡ opening inputs b) × (isDone BadInput ≡ true → Opened b k l)
+    pub bad-input : not y ≡ false → inputs ≡ false
+        → (BadInput ≡ opening inputs b) × (isDone BadInput ≡ true → Opened b k l)
     unfolding opening
     bad-input f i = (rw (rule-kept h e, rule-kept g f, i), λ z. absurd (never z))
 
@@ -135,12 +136,14 @@ module _ (inputs : Bool) (decide : List Row → Outcome) (b : List ℕ) where
       go false t i e = refl
 
 -- what a call decided is what the shell decides
-pub left-decided : {o p : Outcome} {s : Status} {b′ a′ : List ℕ} (b a : List ℕ) → o ≡ p → s ≡ p .status → b′ ≡ bookLeft p b
+pub left-decided : {o p : Outcome} {s : Status} {b′ a′ : List ℕ} (b a : List ℕ) → o ≡ p → s ≡ p .status
+    → b′ ≡ bookLeft p b
     → a′ ≡ answerLeft p a → (s ≡ o .status) × (b′ ≡ bookLeft o b) × (a′ ≡ answerLeft o a)
 left-decided b a e f g h = rw e (f, g, h)
 
 -- a refusal by the shell leaves the areas
-pub left-refused : {o : Outcome} {s : Status} {x : Bool} (b a : List ℕ) → o ≡ refused s (rows b) → x ≡ isDone s → x ≡ false
+pub left-refused : {o : Outcome} {s : Status} {x : Bool} (b a : List ℕ) → o ≡ refused s (rows b) → x ≡ isDone s
+    → x ≡ false
     → (s ≡ o .status) × (b ≡ bookLeft o b) × (a ≡ answerLeft o a)
 unfolding bookLeft answerLeft
 left-refused b a e q r = rw (e, sym q ∙ r) (refl, refl, refl)

@@ -7,7 +7,8 @@ ghost use lib.ListN.{length};
 ghost use Rattle.model.specs.Call.{Promise, feedCall, isDone, lookupCall};
 ghost use Rattle.model.specs.Rows.{mostRecords, wholeRecords};
 ghost use Rattle.reply.specs.Left.{answerLeft, bookLeft};
-ghost use Rattle.book.specs.Shell.{Empty, Opened, feedDecided, feedLengths, lookupDecided, lookupLengths, opening};
+ghost use Rattle.book.specs.Shell.{Empty, Opened, feedDecided, feedLengths, lookupDecided};
+ghost use Rattle.book.specs.Shell.{lookupLengths, opening};
 use feed::feed;
 use inputs::all_feed;
 use inputs::all_lookup;
@@ -73,7 +74,8 @@ fn lookup_on(book: &[u8], input: &[u8], answer: &mut [u8]) -> Status
     requires { ⌜ lookupLengths (length (now input)) (length (now answer)) ≡ true ⌝ }
     ensures { λ r. ⌜ r ≡ lookupDecided (now (book .entry)) (now (input .entry)) .status ⌝ }
     ensures { λ _.
-        ⌜ now (answer .exit) ≡ answerLeft (lookupDecided (now (book .entry)) (now (input .entry))) (now (answer .entry)) ⌝ }
+        ⌜ now (answer .exit)
+        ≡ answerLeft (lookupDecided (now (book .entry)) (now (input .entry))) (now (answer .entry)) ⌝ }
 {
     let none = records(book);
     let mut keys = [none; Slots::ALL];
@@ -111,7 +113,8 @@ fn feed_on(book: &mut [u8], input: &[u8], answer: &mut [u8]) -> Status
     ensures { λ _.
         ⌜ now (book .exit) ≡ bookLeft (feedDecided (now (book .entry)) (now (input .entry))) (now (book .entry)) ⌝ }
     ensures { λ _.
-        ⌜ now (answer .exit) ≡ answerLeft (feedDecided (now (book .entry)) (now (input .entry))) (now (answer .entry)) ⌝ }
+        ⌜ now (answer .exit)
+        ≡ answerLeft (feedDecided (now (book .entry)) (now (input .entry))) (now (answer .entry)) ⌝ }
 {
     let none = records(book);
     let mut keys = [none; Slots::ALL];

@@ -107,7 +107,8 @@ trade-kind i r e =
     eqb-true (r .kind) kindTrade (and-left (is kindTrade r) (eqb (r .id) i) (sym (trade-key i r) ∙ e))
 
 -- the history row is in the lowest free place
-pub added : (b b′ steady : List ℕ) (time number from : ℕ) {h : Row} {next : ℕ} → Ready b steady from → h ≡ history time number
+pub added : (b b′ steady : List ℕ) (time number from : ℕ) {h : Row} {next : ℕ} → Ready b steady from
+    → h ≡ history time number
     → length b′ ≡ length b → next ≡ after (rows b) (freeFrom (rows b) from)
     → rows b′ ≡ set (rows b) (freeFrom (rows b) from) h
     → (rows b′ ≡ put sameRow nothing (history time number) (rows b)) × Ready b′ steady next
@@ -129,10 +130,14 @@ module _ (rs : List Row) (m : Mark) where
   between = put sameRow nothing (history (m .0) (m .1)) rs
 
   found-between : (i : ℕ) → found (aTrade i) between ≡ found (aTrade i) rs
-  found-between i = found-other nothing (history (m .0) (m .1)) rs (aTrade i) (trade-key i nothing) (trade-key i (history (m .0) (m .1)))
+  found-between i =
+      found-other nothing (history (m .0) (m .1)) rs (aTrade i) (trade-key i nothing)
+      (trade-key i (history (m .0) (m .1)))
 
   there-between : (i : ℕ) → there (aTrade i) between ≡ there (aTrade i) rs
-  there-between i = there-other nothing (history (m .0) (m .1)) rs (aTrade i) (trade-key i nothing) (trade-key i (history (m .0) (m .1)))
+  there-between i =
+      there-other nothing (history (m .0) (m .1)) rs (aTrade i) (trade-key i nothing)
+      (trade-key i (history (m .0) (m .1)))
 
   -- which leaves every trade there
   there-submit : (i : ℕ) → there (aTrade i) (submitMark rs m) ≡ there (aTrade i) rs
@@ -153,7 +158,9 @@ submits-one b b₁ b₂ steady time number from {h} {t} {n} {next} {at} s w e l�
     let one = added b b₁ steady time number from s e l₁ x q₁ in
     let k = aTrade number in
     let f : t ≡ found k (rows b₁) = key-row k b₁ a r in
-    let g : found k (rows b₁) ≡ found k (rows b) = ap (found k) (one .0) ∙ found-between (rows b) (time, number) number in
+    let g : found k (rows b₁) ≡ found k (rows b) =
+    ap (found k) (one .0) ∙ found-between (rows b) (time, number) number
+    in
     let w₁ : there k (rows b₁) ≡ true = ap (there k) (one .0) ∙ there-between (rows b) (time, number) number ∙ w in
     let c = trade-kind number t (rw f (found-has k (rows b₁) w₁)) in
     let d : rowAt b₁ at .kind ≡ kindTrade = rw (← r) c in
@@ -225,7 +232,8 @@ module _ (rs : List Row) (e r : Row) {x : Bool} (h : x ≡ hits e r) where
   pub not-hit : (is kindRequest r && x) ≡ false → false ≡ triggered rs e r
   unfolding hits
   not-hit y =
-      go (is kindRequest r) (eqb (found (aTrade (r .id)) rs .status) pending) (eqb (r .symbol) (e .symbol)) (reached e r)
+      go (is kindRequest r) (eqb (found (aTrade (r .id)) rs .status) pending) (eqb (r .symbol) (e .symbol))
+      (reached e r)
       (rw h at y)
     where
       go : (a b c d : Bool) → (a && (c && d)) ≡ false → false ≡ (a && b && c && d)
@@ -292,7 +300,9 @@ pub record Fits (rs es : List Row) : Type 0 where
 module _ {rs : List Row} {e : Row} {es : List Row} (s : Fits rs (e ∷ es)) where
   pub fits-known : there (aSecurity (e .symbol)) rs ≡ true
   unfolding every
-  fits-known = and-left (there (aSecurity (e .symbol)) rs) (every (λ (x : Row). there (aSecurity (x .symbol)) rs) es) (s .known)
+  fits-known =
+      and-left (there (aSecurity (e .symbol)) rs) (every (λ (x : Row). there (aSecurity (x .symbol)) rs) es)
+      (s .known)
 
   pub fits-volume : found (aSecurity (e .symbol)) rs .m1 + e .n2 ≤ volume .high
   unfolding every volumeFits sharesFor total
@@ -308,14 +318,19 @@ module _ {rs : List Row} {e : Row} {es : List Row} (s : Fits rs (e ∷ es)) wher
   unfolding every volumeFits sharesFor total
   fits-next n =
       let f : Fed = record { rows = rs; trades = n } in
-      let left = and-right (there (aSecurity (e .symbol)) rs) (every (λ (x : Row). there (aSecurity (x .symbol)) rs) es) (s .known) in
+      let left =
+      and-right (there (aSecurity (e .symbol)) rs) (every (λ (x : Row). there (aSecurity (x .symbol)) rs) es)
+      (s .known)
+      in
       record {
         known =
-            every-alike (λ (x : Row). there (aSecurity (x .symbol)) (applied f e .rows)) (λ (x : Row). there (aSecurity (x .symbol)) rs)
+            every-alike (λ (x : Row). there (aSecurity (x .symbol)) (applied f e .rows))
+            (λ (x : Row). there (aSecurity (x .symbol)) rs)
             (λ x. there-next f e (x .symbol)) es
             ∙ left;
         volumes =
-            every-on (λ (x : Row). there (aSecurity (x .symbol)) rs) (volumeFits (applied f e .rows) es) (volumeFits rs (e ∷ es)) es left
+            every-on (λ (x : Row). there (aSecurity (x .symbol)) rs) (volumeFits (applied f e .rows) es)
+            (volumeFits rs (e ∷ es)) es left
             (λ x t. ap (λ (v : ℕ). leb v (volume .high)) (moved f x t))
             ∙ and-right (volumeFits rs (e ∷ es) e) (every (volumeFits rs (e ∷ es)) es) (s .volumes);
       }

@@ -45,11 +45,14 @@ module _ {f : Row → Row} {b : List ℕ} {w : List Row} {i : ℕ} (s : Mapping 
       let k : i < length (rows b) = rw length-rows h in
       let one = take-suc-set (rows b) i v k in
       let rest = drop-set-lt (suc i) (rows b) i v (omega arith) in
-      let next : drop i (rows b) ≡ rowAt b i ∷ drop (suc i) (rows b) = rw (← add-one) (left-next (rows b) i nothing k) in
+      let next : drop i (rows b) ≡ rowAt b i ∷ drop (suc i) (rows b) = rw (← add-one) (left-next (rows b) i nothing k)
+      in
       let was : take i (rows b) ++ (v ∷ map f (drop (suc i) (rows b))) ≡ w = rw next at (s .same) in
       record {
         within = rw l (omega arith);
-        same = rw (q, add-one, one, rest) (append-assoc (take i (rows b)) (v ∷ []) (map f (drop (suc i) (rows b))) ∙ was);
+        same =
+            rw (q, add-one, one, rest)
+            (append-assoc (take i (rows b)) (v ∷ []) (map f (drop (suc i) (rows b))) ∙ was);
       }
 
   pub map-all : length b / 64 ≤ i → rows b ≡ w

@@ -65,8 +65,10 @@ module _ (b input a : List ℕ) (good : sound (rows b) ≡ true) {s : Status} {n
       let posted = q ∙ ap (map (left (rows input))) p ∙ sym (swept-due (rows b) (rows input) good) in
       let row : r ≡ answered (rows b) (rows input) = g ∙ rw (u, ← length-rows input, c) in (
         status ∙ sym (judged-status (rows b) (rows input) counted),
-        sym (bytes-rows mostRecords b₂ whole y) ∙ ap bytes posted ∙ sym (ap (λ (p : Outcome). bookLeft p b) o ∙ done-book),
-        h ∙ one-record a r k ∙ ap (λ (v : Row). bytes (v ∷ [])) row ∙ sym (ap (λ (p : Outcome). answerLeft p a) o ∙ done-answer),
+        sym (bytes-rows mostRecords b₂ whole y) ∙ ap bytes posted
+            ∙ sym (ap (λ (p : Outcome). bookLeft p b) o ∙ done-book),
+        h ∙ one-record a r k ∙ ap (λ (v : Row). bytes (v ∷ [])) row
+            ∙ sym (ap (λ (p : Outcome). answerLeft p a) o ∙ done-answer),
       )
     where
       done-book : bookLeft (fed (rows b) (rows input)) b ≡ bytes (fed (rows b) (rows input) .rows)

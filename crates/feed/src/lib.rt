@@ -42,15 +42,16 @@ fn answer_row(entries: usize, trades: usize) -> Row
     r
 }
 
-// What a feed gives on a book that is sound: the book and the answer of the rules, and where it is refused both areas as
-// they were.
+// What a feed gives on a book that is sound: the book and the answer of the rules, and where it is refused both areas
+// as they were.
 pub fn feed(book: &mut [u8], steady: &[u16; Slots::ALL], input: &[u8], answer: &mut [u8]) -> Status
     requires { ⌜ Indexed steadyBucket (now book) (now steady) 0 ⌝ }
     requires { ⌜ (sound (rows (now book)) ≡ true) × (wholeRecords mostRecords (length (now book)) ≡ true) ⌝ }
     requires { ⌜ (wholeRecords mostInputs (length (now input)) ≡ true) × (length (now answer) ≡ recordSize) ⌝ }
     ensures { λ s. ⌜ s ≡ feed (rows (now (book .entry))) (rows (now (input .entry))) .status ⌝ }
     ensures { λ _.
-        ⌜ now (book .exit) ≡ bookLeft (feed (rows (now (book .entry))) (rows (now (input .entry)))) (now (book .entry)) ⌝ }
+        ⌜ now (book .exit)
+        ≡ bookLeft (feed (rows (now (book .entry))) (rows (now (input .entry)))) (now (book .entry)) ⌝ }
     ensures { λ _.
         ⌜ now (answer .exit)
         ≡ answerLeft (feed (rows (now (book .entry))) (rows (now (input .entry)))) (now (answer .entry)) ⌝ }

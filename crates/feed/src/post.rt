@@ -161,7 +161,8 @@ fn apply(
     requires { ⌜ Ready (now book) (now steady) from ⌝ }
     requires { ⌜ there (aSecurity (entry .symbol)) (rows (now book)) ≡ true ⌝ }
     requires { ⌜ found (aSecurity (entry .symbol)) (rows (now book)) .m1 + entry .n2 ≤ volume .high ⌝ }
-    ensures { λ _. ⌜ rows (now (book .exit)) ≡ applied (record { rows = rows (now (book .entry)); trades = 0 }) entry .rows ⌝ }
+    ensures { λ _.
+        ⌜ rows (now (book .exit)) ≡ applied (record { rows = rows (now (book .entry)); trades = 0 }) entry .rows ⌝ }
     ensures { λ r. ⌜ Ready (now (book .exit)) (now (steady .entry)) r ⌝ }
 {
     quote(book, steady, entry);

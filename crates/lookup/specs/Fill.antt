@@ -98,7 +98,8 @@ module _ (b input area : List ℕ) where
   found-not-all h e = let k = sym h ∙ e in (rw k, rw k)
 
 -- an area of two records for each of the input
-pub twice : (n m : ℕ) → wholeRecords mostInputs n ≡ true → m ≡ n * 2 → (m / 64 ≡ n / 64 * 2) × (wholeRecords (mostInputs * 2) m ≡ true)
+pub twice : (n m : ℕ) → wholeRecords mostInputs n ≡ true → m ≡ n * 2
+    → (m / 64 ≡ n / 64 * 2) × (wholeRecords (mostInputs * 2) m ≡ true)
 unfolding wholeRecords
 twice n m w e =
     let two = and-left (leb 64 n && eqb (n % 64) 0) (leb n (mostInputs * 64)) w in

@@ -79,7 +79,8 @@ fn answer_all(book: &[u8], keys: &[u16; Slots::ALL], input: &[u8], answer: &mut 
 // area is as it was.
 pub fn lookup(book: &[u8], keys: &[u16; Slots::ALL], input: &[u8], answer: &mut [u8]) -> Status
     requires { ⌜ Indexed keyBucket (now book) (now keys) 0 ⌝ }
-    requires { ⌜ (wholeRecords mostInputs (length (now input)) ≡ true) × (length (now answer) ≡ length (now input) * 2) ⌝ }
+    requires { ⌜ wholeRecords mostInputs (length (now input)) ≡ true ⌝ }
+    requires { ⌜ length (now answer) ≡ length (now input) * 2 ⌝ }
     ensures { λ r. ⌜ r ≡ lookup (rows (now (book .entry))) (rows (now (input .entry))) .status ⌝ }
     ensures { λ _.
         ⌜ now (answer .exit)

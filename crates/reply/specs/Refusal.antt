@@ -51,7 +51,8 @@ encode-refusal : (s : Status) → encode (refusal s) ≡ replicate 60 0 ++ bytes
 unfolding encode refusal
 encode-refusal s = refl
 
-pub refusal-put : {a b : List ℕ} {r : Row} (n : ℕ) (s : Status) → 64 ≤ n → a ≡ replicate n 0 → r ≡ refusal s → b ≡ putAt a 0 r
+pub refusal-put : {a b : List ℕ} {r : Row} (n : ℕ) (s : Status) → 64 ≤ n → a ≡ replicate n 0 → r ≡ refusal s
+    → b ≡ putAt a 0 r
     → b ≡ refusalArea n s
 unfolding refusalArea
 refusal-put {a} {b} {r} n s h e f g =
@@ -82,8 +83,10 @@ done-by z s e = rw e (by s)
     by FeedNoSecurity = refl
     by LookupNoTrade = refl
 
-pub ends-done : {x : Bool} {a : List ℕ} (b c : List ℕ) (s : Status) → x ≡ isDone s → x ≡ true → a ≡ b → a ≡ either (isDone s) b c
+pub ends-done : {x : Bool} {a : List ℕ} (b c : List ℕ) (s : Status) → x ≡ isDone s → x ≡ true → a ≡ b
+    → a ≡ either (isDone s) b c
 ends-done b c s e t h = h ∙ rw (sym e ∙ t)
 
-pub ends-refused : {x : Bool} {a : List ℕ} (b c : List ℕ) (s : Status) → x ≡ isDone s → x ≡ false → a ≡ c → a ≡ either (isDone s) b c
+pub ends-refused : {x : Bool} {a : List ℕ} (b c : List ℕ) (s : Status) → x ≡ isDone s → x ≡ false → a ≡ c
+    → a ≡ either (isDone s) b c
 ends-refused b c s e t h = h ∙ rw (sym e ∙ t)

@@ -77,7 +77,8 @@ pub fn done(s: Status) -> bool
 pub fn finish(area: &mut [u8], s: Status) -> i32
     requires { ⌜ recordSize ≤ length (now area) ⌝ }
     ensures { λ r. ⌜ r ≡ number s ⌝ }
-    ensures { λ _. ⌜ now (area .exit) ≡ either (isDone s) (now (area .entry)) (refusalArea (length (now (area .entry))) s) ⌝ }
+    ensures { λ _.
+        ⌜ now (area .exit) ≡ either (isDone s) (now (area .entry)) (refusalArea (length (now (area .entry))) s) ⌝ }
 {
     if done(s) {
         return code(s);

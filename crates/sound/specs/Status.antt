@@ -30,7 +30,8 @@ module _ (most : ℕ) (b : List ℕ) where
   unsound-book h e k f = rw (rule-kept h e, ← k, f)
 
 -- no more records than a table has places for
-pub few-records : (most n : ℕ) {x : Bool} → most ≤ mostRecords → x ≡ wholeRecords most n → not x ≡ false → n / 64 ≤ mostRecords
+pub few-records : (most n : ℕ) {x : Bool} → most ≤ mostRecords → x ≡ wholeRecords most n → not x ≡ false
+    → n / 64 ≤ mostRecords
 unfolding wholeRecords
 few-records most n m h e =
     let l = leb-true n (most * 64) (and-right (leb 64 n && eqb (n % 64) 0) (leb n (most * 64)) (rule-kept h e)) in

@@ -17,22 +17,30 @@ feed-on-requires c κs = sym (c .before .before .before .feed-lengths .ensures) 
 finish-requires : tie.Need-finish-requires
 finish-requires c κs =
     let on = c .before .before .before .before .before in
-    let long = feed-long _ _ (sym (c .before .before .before .before .before .before .before .before .before .feed-lengths .ensures) ∙ c .before .before .before .before .before .before .before .before .if1 .taken) .1 in
-    let same : length (on .feed-on .last .1 .1 .0) ≡ length (c .before .before .before .before .before .before .before .before .before .before .before .before .before .args .answer .now) = search needs in
+    let test = on .before .before .before in
+    let feed-lengths = test .before in
+    let start = feed-lengths .before .before .before .before in
+    let long = feed-long _ _ (sym (feed-lengths .feed-lengths .ensures) ∙ test .if1 .taken) .1 in
+    let same : length (on .feed-on .last .1 .1 .0) ≡ length (start .args .answer .now) = search needs in
     omega arith
 
 returns : tie.Need-returns
 unfolding feedCall feedLengths
 returns c =
-    let on = c .before .before .before .before .before .before .before .before .feed-on in
-    let end = c .before .before .finish in
-    let long = sym (c .before .before .before .before .before .before .before .before .before .before .before .before .feed-lengths .ensures) ∙ c .before .before .before .before .before .before .before .before .before .before .before .if1 .taken in
-    let start = c .before .before .before .before .before .before .before .before .before .before .before .before .before .before .before .before in
+    let finish = c .before .before in
+    let feed-on = finish .before .before .before .before .before .before in
+    let test = feed-on .before .before .before in
+    let feed-lengths = test .before in
+    let start = feed-lengths .before .before .before .before in
+    let on = feed-on .feed-on in
+    let end = finish .finish in
+    let long = sym (feed-lengths .feed-lengths .ensures) ∙ test .if1 .taken in
     let b = start .args .book .now in
     let a = start .args .answer .now in
     let same : length (on .last .1 .1 .0) ≡ length a = search needs in
     rw (called _ _ b a long)
-    (promised (feedDecided b (start .args .input .now)) b a (on .ensures .0) (on .ensures .1 .0) (on .ensures .1 .1) same
+    (promised (feedDecided b (start .args .input .now)) b a (on .ensures .0) (on .ensures .1 .0) (on .ensures .1 .1)
+    same
     (number-back (end .result) (on .result) (end .ensures .0)) (end .ensures .1))
 
 returns-2 : tie.Need-returns-2

@@ -17,24 +17,31 @@ lookup-on-requires c κs = sym (c .before .before .lookup-lengths .ensures) ∙ 
 finish-requires : tie.Need-finish-requires
 finish-requires c κs =
     let on = c .before .before .before in
-    let long = lookup-long _ _ (sym (c .before .before .before .before .before .before .lookup-lengths .ensures) ∙ c .before .before .before .before .before .if1 .taken) in
+    let test = on .before .before in
+    let lookup-lengths = test .before in
+    let start = lookup-lengths .before .before .before .before in
+    let long = lookup-long _ _ (sym (lookup-lengths .lookup-lengths .ensures) ∙ test .if1 .taken) in
     let whole = some _ _ (long .0) in
     let twice = long .1 in
-    let same : length (on .lookup-on .last .1 .1 .0) ≡ length (c .before .before .before .before .before .before .before .before .before .before .args .answer .now) = search needs in
+    let same : length (on .lookup-on .last .1 .1 .0) ≡ length (start .args .answer .now) = search needs in
     omega arith
 
 returns : tie.Need-returns
 unfolding lookupCall lookupLengths
 returns c =
-    let on = c .before .before .before .before .before .before in
-    let long = sym (c .before .before .before .before .before .before .before .before .before .lookup-lengths .ensures) ∙ c .before .before .before .before .before .before .before .before .if1 .taken in
-    let start = c .before .before .before .before .before .before .before .before .before .before .before .before .before in
+    let finish = c .before .before in
+    let on = finish .before .before .before .before in
+    let test = on .before .before in
+    let lookup-lengths = test .before in
+    let shared-slice-known = lookup-lengths .before .before .before in
+    let start = shared-slice-known .before in
+    let long = sym (lookup-lengths .lookup-lengths .ensures) ∙ test .if1 .taken in
     let b = start .args .book .now in
     let i = start .args .input .now in
     let a = start .args .answer .now in
-    let book = lookup-left b i a (λ j. c .before .before .before .before .before .before .before .before .before .before .before .before .shared-slice-known .given j .fits) long in
+    let book = lookup-left b i a (λ j. shared-slice-known .shared-slice-known .given j .fits) long in
     let same : length (on .lookup-on .last .1 .1 .0) ≡ length a = search needs in
-    let end = c .before .before .finish in
+    let end = finish .finish in
     rw (called _ _ b a long)
     (promised (lookupDecided b i) b a (on .lookup-on .ensures .0) book (on .lookup-on .ensures .1) same
     (number-back (end .result) (on .lookup-on .result) (end .ensures .0)) (end .ensures .1))

@@ -11,16 +11,21 @@ opened-requires c κs = empty _ _ (c .before .before .before .before .records .e
 feed-requires : tie.Need-feed-requires
 feed-requires c κs =
     let test = c .before .before .before in
-    let tables = c .before .before .before .before .before .opened .ensures .1 (sym (test .before .done .ensures) ∙ test .if1 .taken) in
-    (tables .steadily, ((tables .is-sound, tables .is-whole), feed-long _ _ (c .before .before .before .before .before .before .before .before .before .before .before .before .before .before .before .pre)))
+    let opened = test .before .before in
+    let start = opened .before .before .before .before .before .before .before .before .before .before in
+    let tables = opened .opened .ensures .1 (sym (test .before .done .ensures) ∙ test .if1 .taken) in
+    (tables .steadily, ((tables .is-sound, tables .is-whole), feed-long _ _ (start .pre)))
 
 returns : tie.Need-returns
 returns c =
-    let fed = c .before .before .before .before .feed in
-    let test = c .before .before .before .before .before .before .before .before in
-    let start = c .before .before .before .before .before .before .before .before .before .before .before .before .before .before .before .before .before .before .before .before in
+    let feed = c .before .before .before .before in
+    let test = feed .before .before .before .before in
+    let opened = test .before .before in
+    let all-feed = opened .before .before .before in
+    let start = all-feed .before .before .before .before .before .before .before in
+    let fed = feed .feed in
     let o =
-    goes-on _ _ _ (c .before .before .before .before .before .before .before .before .before .before .opened .ensures .0) (c .before .before .before .before .before .before .before .before .before .before .before .before .before .all-feed .ensures) (test .before .done .ensures)
+    goes-on _ _ _ (opened .opened .ensures .0) (all-feed .all-feed .ensures) (test .before .done .ensures)
     (test .if1 .taken)
     in
     let left =
@@ -31,11 +36,15 @@ returns c =
 
 returns-2 : tie.Need-returns-2
 returns-2 c =
-    let start = c .before .before .before .before .before .before .before .before .before .before .before .before in
+    let done = c .before in
+    let opened = done .before in
+    let all-feed = opened .before .before .before in
+    let start = all-feed .before .before .before .before .before .before .before in
     let o =
-    stops _ _ _ (c .before .before .opened .ensures .0) (c .before .before .before .before .before .all-feed .ensures) (c .before .done .ensures) (c .if1 .left)
+    stops _ _ _ (opened .opened .ensures .0) (all-feed .all-feed .ensures) (done .done .ensures) (c .if1 .left)
     in
-    let left = left-refused (start .args .book .now) (start .args .answer .now) o (c .before .done .ensures) (c .if1 .left) in
+    let left = left-refused (start .args .book .now) (start .args .answer .now) o (done .done .ensures) (c .if1 .left)
+    in
     (left .0, (left .1, left .2))
 
 pub feed-on-spec : {M : Type 1} → statement M

@@ -11,26 +11,36 @@ opened-requires c κs = empty _ _ (c .before .before .before .records .ensures)
 
 lookup-requires : tie.Need-lookup-requires
 lookup-requires c κs =
-    let opened = c .before .before .before .before in
-    let tables = opened .opened .ensures .1 (sym (c .before .before .before .done .ensures) ∙ c .before .before .if1 .taken) in
-    (tables .by-key, lookup-long _ _ (c .before .before .before .before .before .before .before .before .before .before .before .before .pre))
+    let test = c .before .before in
+    let done = test .before in
+    let opened = done .before in
+    let start = opened .before .before .before .before .before .before .before .before in
+    let tables = opened .opened .ensures .1 (sym (done .done .ensures) ∙ test .if1 .taken) in
+    (tables .by-key, lookup-long _ _ (start .pre))
 
 returns : tie.Need-returns
 returns c =
-    let looked = c .before .before .lookup in
-    let test = c .before .before .before .before .before in
-    let opened = c .before .before .before .before .before .before .before in
-    let inputs = c .before .before .before .before .before .before .before .before .before .before .all-lookup in
-    let o = goes-on _ _ _ (opened .opened .ensures .0) (inputs .ensures) (test .before .done .ensures) (test .if1 .taken) in
-    let left = left-decided [] (c .before .before .before .before .before .before .before .before .before .before .before .before .before .before .before .args .answer .now) (o .0) (looked .ensures .0) refl (looked .ensures .1) in
+    let lookup = c .before .before in
+    let test = lookup .before .before .before in
+    let opened = test .before .before in
+    let all-lookup = opened .before .before .before in
+    let start = all-lookup .before .before .before .before .before in
+    let looked = lookup .lookup in
+    let inputs = all-lookup .all-lookup in
+    let o = goes-on _ _ _ (opened .opened .ensures .0) (inputs .ensures) (test .before .done .ensures)
+    (test .if1 .taken) in
+    let left = left-decided [] (start .args .answer .now) (o .0) (looked .ensures .0) refl (looked .ensures .1) in
     (left .0, left .2)
 
 returns-2 : tie.Need-returns-2
 returns-2 c =
-    let opened = c .before .before in
-    let inputs = c .before .before .before .before .before .all-lookup in
-    let o = stops _ _ _ (opened .opened .ensures .0) (inputs .ensures) (c .before .done .ensures) (c .if1 .left) in
-    let left = left-refused _ (c .before .before .before .before .before .before .before .before .before .before .args .answer .now) o (c .before .done .ensures) (c .if1 .left) in
+    let done = c .before in
+    let opened = done .before in
+    let all-lookup = opened .before .before .before in
+    let start = all-lookup .before .before .before .before .before in
+    let inputs = all-lookup .all-lookup in
+    let o = stops _ _ _ (opened .opened .ensures .0) (inputs .ensures) (done .done .ensures) (c .if1 .left) in
+    let left = left-refused _ (start .args .answer .now) o (done .done .ensures) (c .if1 .left) in
     (left .0, left .2)
 
 pub lookup-on-spec : {M : Type 1} → statement M

@@ -17,8 +17,10 @@ build-requires c κs =
 
 returns-2 : tie.Need-returns-2
 returns-2 c =
-    let checked = c .before .before .before .before .before .before .before in
-    unsound-book _ _ (checked .before .whole .ensures) (checked .if1 .left) (c .before .sound-by .ensures) _ _ (c .if2 .taken)
+    let sound-by = c .before in
+    let checked = sound-by .before .before .before .before .before .before in
+    unsound-book _ _ (checked .before .whole .ensures) (checked .if1 .left) (sound-by .sound-by .ensures) _ _
+    (c .if2 .taken)
 
 returns-3 : tie.Need-returns-3
 returns-3 c =

@@ -8,9 +8,12 @@ use Rattle.reply.proofs.refusal.Tie as tie
 returns : tie.Need-returns
 unfolding refusal
 returns c =
-    let number = c .before .code in
+    let code = c .before in
+    let nothing = code .before in
+    let start = nothing .before in
+    let number = code .code in
     rw
-    (c .before .before .nothing .ensures, c .bits32 .ensures, number-back (number .result) (c .before .before .before .args .s) (number .ensures))
+    (nothing .nothing .ensures, c .bits32 .ensures, number-back (number .result) (start .args .s) (number .ensures))
 
 pub refusal-spec : {M : Type 1} → statement M
 refusal-spec = tie.close (tie.spec (λ c κs. search needs) (λ c κs. search needs) (λ c κs. search needs) returns)

@@ -5,19 +5,28 @@ use Rattle.feed.proofs.post.apply.Statement.{statement}
 use Rattle.feed.proofs.post.apply.Tie as tie
 
 gather-requires : tie.Need-gather-requires
-gather-requires c κs = c .before .before .before .before .before .quote .ensures .1 _ (c .before .before .before .before .before .before .before .before .pre .0) .indexed
+gather-requires c κs =
+    let quote = c .before .before .before .before .before in
+    let start = quote .before .before .before in
+    quote .quote .ensures .1 _ (start .pre .0) .indexed
 
 submit-all-requires : tie.Need-submit-all-requires
 submit-all-requires c κs =
-    let gathered = c .before .before .before .gather in
-    let quoted = c .before .before .before .before .before .before .before .before .before .quote in
-    (quoted .ensures .1 _ (c .before .before .before .before .before .before .before .before .before .before .before .before .pre .0), (gathered .ensures .0, rw (gathered .ensures .1) (gathered-there _ _)))
+    let gather = c .before .before .before in
+    let quote = gather .before .before .before .before .before .before in
+    let start = quote .before .before .before in
+    let gathered = gather .gather in
+    let quoted = quote .quote in
+    (quoted .ensures .1 _ (start .pre .0), (gathered .ensures .0, rw (gathered .ensures .1) (gathered-there _ _)))
 
 returns : tie.Need-returns
 returns c =
-    let sent = c .before .before .submit-all in
-    let gathered = c .before .before .before .before .before .before .gather in
-    let quoted = c .before .before .before .before .before .before .before .before .before .before .before .before .quote in
+    let submit-all = c .before .before in
+    let gather = submit-all .before .before .before .before in
+    let quote = gather .before .before .before .before .before .before in
+    let sent = submit-all .submit-all in
+    let gathered = gather .gather in
+    let quoted = quote .quote in
     (applied-is _ _ _ _ _ _ (quoted .ensures .0) (gathered .ensures .1) (sent .ensures .0), sent .ensures .1)
 
 pub apply-spec : {M : Type 1} → statement M

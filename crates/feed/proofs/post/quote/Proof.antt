@@ -12,19 +12,25 @@ use Rattle.feed.proofs.post.quote.Tie as tie
 
 add-s : tie.Need-add-s
 add-s c =
-    let row = c .before .before in
-    let start = c .before .before .before .before .before .before .before in
-    let found = ap (λ (r : Row). r .m1) (key-row _ _ (row .before .before .security-at .ensures) (row .row-at .ensures)) in
+    let wide = c .before in
+    let row = wide .before in
+    let start = row .before .before .before .before .before in
+    let found = ap (λ (r : Row). r .m1) (key-row _ _ (row .before .before .security-at .ensures)
+    (row .row-at .ensures)) in
     let fits = start .pre .1 .1 in
-    let shares = c .before .wide .ensures in
+    let shares = wide .wide .ensures in
     omega arith
 
 returns : tie.Need-returns
 returns c =
-    let put = c .before .before .put in
-    let row = c .before .before .before .before .before .before in
-    quoted _ _ _ (c .before .before .before .before .before .before .before .before .before .before .before .args .entry) (c .before .before .before .before .before .before .before .before .before .before .before .pre .1 .0) (row .before .before .security-at .ensures) (row .row-at .ensures)
-    (c .before .before .before .before .before .wide .ensures) (ap length (put .ensures .0) ∙ length-putAt _ _ _) (put .ensures .1)
+    let put-at = c .before .before in
+    let wide = put-at .before .before .before in
+    let row = wide .before in
+    let start = row .before .before .before .before .before in
+    let put = put-at .put in
+    quoted _ _ _ (start .args .entry) (start .pre .1 .0) (row .before .before .security-at .ensures)
+    (row .row-at .ensures)
+    (wide .wide .ensures) (ap length (put .ensures .0) ∙ length-putAt _ _ _) (put .ensures .1)
 
 pub quote-spec : {M : Type 1} → statement M
 quote-spec =

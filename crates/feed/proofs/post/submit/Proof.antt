@@ -11,17 +11,22 @@ use Rattle.feed.proofs.post.submit.Tie as tie
 trade-at-requires : tie.Need-trade-at-requires
 trade-at-requires c κs =
     let add = c .before .before .before in
+    let start = add .before .before .before .before in
     let long = ap length (add .add .ensures .1 .0) ∙ length-putAt _ _ _ in
-    added _ _ _ _ _ _ (c .before .before .before .before .before .before .before .pre .0) (add .before .history .ensures) long (add .add .ensures .0) (add .add .ensures .1 .1) .1 .indexed
+    added _ _ _ _ _ _ (start .pre .0) (add .before .history .ensures) long (add .add .ensures .0)
+    (add .add .ensures .1 .1) .1 .indexed
 
 returns : tie.Need-returns
 returns c =
-    let put = c .before .before .put in
-    let add = c .before .before .before .before .before .before .before .before .before .before in
-    let start = c .before .before .before .before .before .before .before .before .before .before .before .before .before .before in
+    let put-at = c .before .before in
+    let row-at = put-at .before .before in
+    let trade-at = row-at .before .before in
+    let add = trade-at .before .before .before .before in
+    let start = add .before .before .before .before in
+    let put = put-at .put in
     submits-one _ _ _ _ _ _ _ (start .pre .0) (start .pre .1) (add .before .history .ensures)
     (ap length (add .add .ensures .1 .0) ∙ length-putAt _ _ _) (add .add .ensures .0) (add .add .ensures .1 .1)
-    (c .before .before .before .before .before .before .trade-at .ensures) (c .before .before .before .before .row-at .ensures) refl (ap length (put .ensures .0) ∙ length-putAt _ _ _)
+    (trade-at .trade-at .ensures) (row-at .row-at .ensures) refl (ap length (put .ensures .0) ∙ length-putAt _ _ _)
     (put .ensures .1)
 
 pub submit-spec : {M : Type 1} → statement M
