@@ -9,9 +9,7 @@ use native.Mathlib.Nat.{mul-le-mul-right}
 use native.Mathlib.Omega.{arith}
 use lib.Dec.{eqb, leb}
 use lib.ListN.{length, getD}
-use borrow.Author.Tests.{eq-eqb, eqb-true, le-leb, le-ltb, leb-false, leb-true, ltb-true}
-use mir.Facts.{toZ-pos}
-use mir.Syntax.{w64}
+use borrow.Author.Tests.{eq-eqb, eqb-true, le-leb, ltb-true}
 use Rattle.laws.specs.Keep.{count-has, count-one, keep-from, map-on, the-has}
 use Rattle.laws.specs.Place.{every-at, some-place, the-none, the-passes, the-place}
 use Rattle.laws.specs.Search.{count, keep, place, run, the}
@@ -20,7 +18,6 @@ use Rattle.laws.specs.Tests.{_⇔_, and-both, and-left}
 use Rattle.record.specs.Codes.{kindLot}
 use Rattle.record.specs.Key.{keyOf}
 use Rattle.record.specs.KeyLaws.{same-keys}
-use Rattle.record.specs.Signed.{toZ-high}
 use Rattle.record.specs.declared.row.Row.{Row}
 use Rattle.rules.specs.Meaning.{means-lot}
 use Rattle.rules.specs.Ranges.{priceMost, sharesMost}
@@ -77,15 +74,6 @@ module _ (rs : List Row) (unique : s2 rs ≡ true) where
       let some = le-leb 1 (count p rs) (count-has p r rs m own) in
       count-one p (the p nothing rs) r rs (one-number r m k) (the-has p nothing rs some) m
       (the-passes p nothing rs some) own
-
--- ---- a lot is short from the half of the bits on
-pub short-bits : (l : Row) → leb 9223372036854775808 (l .m1) ≡ short l
-short-bits l = go (leb 9223372036854775808 (l .m1)) refl
-  where
-    go : (t : Bool) → leb 9223372036854775808 (l .m1) ≡ t → leb 9223372036854775808 (l .m1) ≡ short l
-    go true e = rw (e, toZ-high w64 (l .m1) (leb-true 9223372036854775808 (l .m1) e))
-    go false e = let h = leb-false 9223372036854775808 (l .m1) e in
-        rw (e, toZ-pos w64 {n = l .m1} (omega arith)) (sym (le-ltb (l .m1) 0 (omega arith)))
 
 -- ---- the lots of the numbers
 unfoldable pub lotsAt : List Row → List ℕ → ℕ → List Row

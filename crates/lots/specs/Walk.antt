@@ -1,16 +1,18 @@
 -- The walk as the code has it: its values are never below zero, and with what is still needed at the highest price they
 -- stay below a bound. Assumes nothing.
-use mathlib.Core.Path.{_≡_, refl}
+use mathlib.Core.Path.{_≡_, refl, sym, _∙_}
 use mathlib.Core.Bool.{Bool, true, false, cond}
-use Prim.Native.Nat.{ℕ, _+_, _-_, _*_, _≤_, _<_}
+use Prim.Native.Nat.{ℕ, _+_, _*_, _≤_}
 use native.Mathlib.Nat.{mul-le-mul-left}
 use native.Mathlib.Omega.{arith}
+use lib.Dec.{leb}
 use lib.IntN.{ℤ, pos, negsuc, natAbs}
 use lib.Signed.{ltZ}
-use borrow.Author.Tests.{ltb-true}
+use borrow.Author.Tests.{le-ltb, leb-false, leb-true, ltb-true}
 use mir.Facts.{toZ-pos}
 use mir.Syntax.{w64}
-use Rattle.record.specs.Signed.{toZ-high, up}
+use mir.Val.{toZ}
+use Rattle.record.specs.Signed.{dn, toZ-high, up}
 use Rattle.record.specs.declared.row.Row.{Row}
 use Rattle.kinds.specs.Units.{cents, shares}
 use Rattle.kinds.specs.declared.units.Price.{Price}
@@ -18,6 +20,8 @@ use Rattle.kinds.specs.declared.units.Shares.{Shares}
 use Rattle.rules.specs.Ranges.{moneyMost, priceMost, sharesMost}
 use Rattle.model.specs.Lots
 use Rattle.model.specs.Money.{buys}
+use Rattle.model.specs.Sound.{short}
+use Rattle.tables.specs.Sums.{side}
 use Rattle.lots.specs.declared.walk.Walk.{Walk}
 
 pub up-below : (z : ℤ) → ltZ z (pos 0) ≡ true → 0 ≡ up z
@@ -28,18 +32,31 @@ pub up-above : (z : ℤ) → ltZ z (pos 0) ≡ false → natAbs z ≡ up z
 up-above (pos n) e = refl
 up-above (negsuc n) e = let z : _≡_ {A = ℕ} 0 1 = cc in absurd {A = natAbs (negsuc n) ≡ 0} (omega arith)
 
--- the shares of a lot by the bits
-pub size-above : (l : Row) → l .m1 < 9223372036854775808 → l .m1 ≡ Lots.size l
-size-above l h = let e = toZ-pos w64 {n = l .m1} h in rw e
+dn-below : (z : ℤ) → ltZ z (pos 0) ≡ true → dn z ≡ natAbs z
+dn-below (pos n) e = let h : ⊥ = omega (arith, ltb-true n 0 e) in absurd h
+dn-below (negsuc n) e = refl
 
-pub size-below : (l : Row) → 9223372036854775808 ≤ l .m1 → l .m1 ≤ 18446744073709551615
-    → 18446744073709551615 - l .m1 + 1 ≡ Lots.size l
-size-below l h k = let e = toZ-high w64 (l .m1) h in rw e (omega arith)
+-- ---- a lot is short from the half of the bits on, and its size is on that side
+pub short-bits : (l : Row) → leb 9223372036854775808 (l .m1) ≡ short l
+short-bits l = go (leb 9223372036854775808 (l .m1)) refl
+  where
+    go : (t : Bool) → leb 9223372036854775808 (l .m1) ≡ t → leb 9223372036854775808 (l .m1) ≡ short l
+    go true e = rw (e, toZ-high w64 (l .m1) (leb-true 9223372036854775808 (l .m1) e))
+    go false e = let h = leb-false 9223372036854775808 (l .m1) e in
+        rw (e, toZ-pos w64 {n = l .m1} (omega arith)) (sym (le-ltb (l .m1) 0 (omega arith)))
+
+pub size-side : (l : Row) {t : Bool} {x : ℕ} → t ≡ short l → x ≡ side t (l .m1) → x ≡ Lots.size l
+size-side l {t} e h = h ∙ go t (sym e)
+  where
+    go : (t : Bool) → short l ≡ t → side t (l .m1) ≡ Lots.size l
+    go true q = dn-below (toZ w64 (l .m1)) q
+    go false q = sym (up-above (toZ w64 (l .m1)) q)
 
 -- the most that a walk can hold
 abbrev pub valueMost : ℕ
 valueMost = sharesMost * priceMost
 
+-- the plain numbers of the code's walk, and the code's walk of plain numbers
 abbrev pub seen : Walk → Lots.Walk
 seen w = record {
   need = up (w .need .0);

@@ -8,6 +8,7 @@ ghost use Rattle.kinds.specs.Units.{cents, shares};
 ghost use Rattle.rules.specs.Ranges.{moneyMost, priceMost, sharesMost};
 ghost use Rattle.model.specs.Lots.{size, start, step, taken};
 ghost use Rattle.model.specs.Money.{buys};
+ghost use Rattle.model.specs.Sound.{short};
 ghost use Rattle.lots.specs.Walk.{Within, made, seen, valueMost};
 use crate::units;
 use kinds::units::Cents;
@@ -15,6 +16,7 @@ use kinds::units::Price;
 use kinds::units::Shares;
 use record::codes::TradeType;
 use record::row::Row;
+use tables::sums::side;
 
 pub fn buys(form: u8) -> bool
     ensures { λ r. ⌜ r ≡ buys form ⌝ }
@@ -22,15 +24,18 @@ pub fn buys(form: u8) -> bool
     (form == TradeType::TMB) | (form == TradeType::TLB)
 }
 
+// The shares of a lot are owed.
+pub fn short(lot: Row) -> bool
+    ensures { λ r. ⌜ r ≡ short lot ⌝ }
+{
+    9_223_372_036_854_775_808 <= lot.m1
+}
+
 // The shares of a lot, held or owed.
 fn size(lot: Row) -> u64
     ensures { λ r. ⌜ r ≡ size lot ⌝ }
 {
-    let x = lot.m1;
-    if x < 9_223_372_036_854_775_808 {
-        return x;
-    }
-    18_446_744_073_709_551_615 - x + 1
+    side(short(lot), lot.m1)
 }
 
 fn least(a: u64, b: u64) -> u64
