@@ -1,5 +1,5 @@
 //! `calls [--seed S] [--cases N] [--seconds T] [--only NAME N]`: holds the library to the second program: N random
-//! cases of each call (else 20,000) and one sequence of calls on one book for every twenty of them. With --seconds
+//! cases of each call (else 20,000) and one sequence of calls on one book for every ten of them. With --seconds
 //! it goes on for so long instead, and with 0 until ten have failed. With --only it runs one case of a call, or one
 //! `sequence`, of the seed again. Prints how often each status came; its last line is 'N passed, M failed'.
 
@@ -17,7 +17,7 @@ use std::time::{Duration, Instant};
 
 const CASES: u64 = 20_000;
 /// There is one sequence for so many cases of each call, and it has so many steps.
-const CASES_PER_SEQUENCE: u64 = 20;
+const CASES_PER_SEQUENCE: u64 = 10;
 const STEPS: usize = 30;
 const MOST_SAID: u64 = 10;
 /// "No function takes more than 512 KiB of stack with all that it calls."
