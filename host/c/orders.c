@@ -140,6 +140,10 @@ struct estimate {
     uint64_t bought, sold, tax;
 };
 
+/* Of 120 shares sold from the lots of the figures, FIFO: at 3,000, the last price, and at a bid of 2,900. */
+static const struct estimate at_last = {3000, 1800, 250000, 360000, 22000};
+static const struct estimate at_bid = {2900, 1740, 250000, 348000, 19600};
+
 /* Expects this answer, and the book as it is. */
 static void expect_answer(uint64_t id, struct estimate estimate)
 {
@@ -219,14 +223,13 @@ static void sell(const char *name, uint8_t flags, uint32_t shares, struct estima
 
 static void check_figures(void)
 {
-    const struct estimate fifo = {3000, 1800, 250000, 360000, 22000};
     const struct estimate lifo = {3000, 1800, 265000, 360000, 19000};
     const struct estimate all = {3000, 2250, 325000, 450000, 25000};
     const struct estimate more = {3000, 3000, 325000, 450000, 25000};
     const struct estimate short_lot = {2900, 1160, 145000, 150000, 1000};
     const struct estimate none = {3000, 1800, 0, 0, 0};
-    sell("P1: an order of 120, FIFO", 0, 120, fifo);
-    sell("P1, cash", BOOK_FLAG_CASH, 120, fifo);
+    sell("P1: an order of 120, FIFO", 0, 120, at_last);
+    sell("P1, cash", BOOK_FLAG_CASH, 120, at_last);
     sell("P2: an order of 120, LIFO", BOOK_FLAG_LIFO, 120, lifo);
     sell("P2, cash", BOOK_FLAG_CASH + BOOK_FLAG_LIFO, 120, lifo);
     sell("P3: an order of 150", 0, 150, all);
@@ -242,6 +245,48 @@ static void check_figures(void)
     ask("ABC", BOOK_TMB, 0, 120, 0);
     expect_market(12, 0, none, 25, 26);
     ordered("a buy closes no positive lot");
+}
+
+/* Makes the lot that was added last one of this account and symbol, and adds its summary. */
+static void give_last_lot(uint32_t account, const char *letters)
+{
+    uint8_t *lot = book.bytes + book.length - RECORD, *trade = lot - 3 * RECORD, *summary;
+    put(trade, BOOK_AT_PARTY, 4, account);
+    put(lot, BOOK_AT_PARTY, 4, account);
+    set_symbol(trade, letters);
+    set_symbol(lot, letters);
+    summary = add(&book, BOOK_KIND_SUMMARY);
+    put(summary, BOOK_AT_PARTY, 4, account);
+    set_symbol(summary, letters);
+    memcpy(summary + BOOK_AT_M1, lot + BOOK_AT_M1, 8);
+}
+
+static void check_lots(void)
+{
+    stand("ABC", 3000);
+    add_lot(10, 50, 2500, 200);
+    add_lot(11, 100, 2000, 100);
+    add_summary(150);
+    add_free(&book, 2);
+    ask("ABC", BOOK_TMS, 0, 120, 0);
+    expect_market(12, 0, at_last, 25, 26);
+    ordered("lots by time and not by number");
+    stand("ABC", 3000);
+    add_lot(8, 70, 1000, 50);
+    give_last_lot(ACCOUNT + 1, "ABC");
+    add_lot(9, 70, 1000, 50);
+    give_last_lot(ACCOUNT, "ABCD");
+    memcpy(add(&book, BOOK_KIND_ACCOUNT), row_at(&book, AT_ACCOUNT), RECORD);
+    put(row_at(&book, 26), BOOK_AT_PARTY, 4, ACCOUNT + 1);
+    memcpy(add(&book, BOOK_KIND_SECURITY), row_at(&book, AT_SECURITY), RECORD);
+    set_symbol(row_at(&book, 27), "ABCD");
+    add_lot(10, 100, 2000, 100);
+    add_lot(11, 50, 2500, 200);
+    add_summary(150);
+    add_free(&book, 2);
+    ask("ABC", BOOK_TMS, 0, 120, 0);
+    expect_market(12, 0, at_last, 37, 38);
+    ordered("lots of another account and of another symbol stay out");
 }
 
 /* Lots of one time: FIFO begins with the lower number, LIFO with the higher. */
@@ -334,10 +379,6 @@ static void check_symbols(void)
     input.bytes[BOOK_AT_SYMBOL + 7] = 'X';
     not_ordered("an order with a stray byte on the symbol's fence", BOOK_BAD_INPUT);
 }
-
-/* An order of 120 at 3,000, the last price, on the book of the figures; and one that sells at a bid of 2,900. */
-static const struct estimate at_last = {3000, 1800, 250000, 360000, 22000};
-static const struct estimate at_bid = {2900, 1740, 250000, 348000, 19600};
 
 /* The book of the figures with free places in between: 16, 21, 26 and 28. */
 static void check_places(void)
@@ -531,6 +572,7 @@ static void check_largest(void)
 void check_orders(void)
 {
     check_figures();
+    check_lots();
     check_ties();
     check_cents();
     check_symbols();
