@@ -125,6 +125,52 @@ enum {
 };
 
 /*
+ * Trade-Order: a new trade.
+ *
+ *   book    read and written; book_len is 64 times the number of records, 1 to 4,096
+ *   input   read: one record, input_len is 64. Kind 33, type 1..5, flags any of cash 1, LIFO 2 and roll back 4, party
+ *           the account 1..999,999,999, symbol, n1 shares 1..999,999, n2 bid: 0 for types 1 and 2, 1..99,999,999 for
+ *           the others, time 0..4,000,000,000; all else zero
+ *   answer  written: one record, answer_len is 64
+ *
+ * Statuses, in the order of checking: BOOK_BAD_LENGTH, BOOK_BAD_BOOK, BOOK_UNSOUND, BOOK_BAD_INPUT,
+ * BOOK_ORDER_NO_ACCOUNT, BOOK_ORDER_NO_SECURITY, BOOK_ORDER_NO_TAX, BOOK_ORDER_NO_RATE, BOOK_ORDER_NO_CHARGE,
+ * BOOK_OVER_LIMIT (the trade's number would be above 999,999,999,999,999), BOOK_NO_ROOM, BOOK_DONE. With roll back
+ * they are the same.
+ *
+ * The trade's number is one more than the largest trade number of the book, or 1 if it has no trade. The price used is
+ * the security's last price for types 1 and 2, and the bid for the others. The estimates are made at that price:
+ * - A sell would close the account's positive lots of the symbol, a buy its negative ones, by rising time and then
+ *   trade number, or both falling with LIFO, until as many shares are closed as the order has or no lot is left. For a
+ *   sell, closed shares add their lot's price to the bought value and the price used to the sold value; for a buy, the
+ *   reverse.
+ * - The tax is (sold - bought) * sum of the customer's rates / 100,000 for an account of tax status 1 or 2 with
+ *   sold > bought, else 0. The commission is rate * shares * price / 10,000, by the band of the order's type, the
+ *   customer's tier and the security's exchange that holds the shares. Both are rounded to the nearest cent,
+ *   halves up.
+ * - The charge is that of the order's type and the customer's tier.
+ *
+ * On BOOK_DONE without roll back these rows were added, on the lowest free places and in this order:
+ * - the trade: its number; type, account, symbol, shares and time of the input; flags cash and LIFO as there; status 2
+ *   for types 1 and 2, else 1; n2 the price used, n3 0, n4 the charge, m1 the commission, m2 0
+ * - its history row: number, status and time
+ * - for status 1 alone, its request: number, type, symbol, n1 shares, n2 the price used, party the account's broker
+ * The book is sound again, and no other byte of it changed. With roll back no byte of the book changed, and the answer
+ * is the same. The answer is zeros but for these fields:
+ *
+ *   kind  byte 0       33
+ *   id    bytes 8-15   the trade's number
+ *         bytes 16-23  the tax, little-endian, where a row has its symbol
+ *   n1    bytes 24-27  the charge
+ *   n2    bytes 28-31  the rate of the commission, in hundredths of a percent
+ *   n3    bytes 32-35  the price used
+ *   m1    bytes 40-47  the bought value
+ *   m2    bytes 48-55  the sold value
+ */
+int32_t book_order(uint8_t *book, size_t book_len, const uint8_t *input, size_t input_len, uint8_t *answer,
+                   size_t answer_len);
+
+/*
  * Market-Feed: new prices. Entries apply in turn, all of them or none.
  *
  *   book    read and written; book_len is 64 times the number of records, 1 to 4,096

@@ -21,11 +21,20 @@ static int32_t lookup(uint8_t *book, size_t book_len, const uint8_t *input, size
 #define SHARED BOOK_DONE, BOOK_BAD_LENGTH, BOOK_BAD_BOOK, BOOK_UNSOUND, BOOK_BAD_INPUT
 static const int32_t of_lookup[] = {SHARED, BOOK_LOOKUP_NO_TRADE};
 static const int32_t of_feed[] = {SHARED, BOOK_FEED_NO_SECURITY, BOOK_OVER_LIMIT, BOOK_NO_ROOM};
+static const int32_t of_order[] = {SHARED,
+                                   BOOK_ORDER_NO_ACCOUNT,
+                                   BOOK_ORDER_NO_SECURITY,
+                                   BOOK_ORDER_NO_TAX,
+                                   BOOK_ORDER_NO_RATE,
+                                   BOOK_ORDER_NO_CHARGE,
+                                   BOOK_OVER_LIMIT,
+                                   BOOK_NO_ROOM};
 
 #define ALL(list) list, sizeof list / sizeof list[0]
 const struct call calls[] = {
     {"lookup", BOOK_KIND_LOOKUP, lookup, 1, ALL(of_lookup)},
     {"feed", BOOK_KIND_FEED, book_feed, 0, ALL(of_feed)},
+    {"order", BOOK_KIND_ORDER, book_order, 0, ALL(of_order)},
 };
 const size_t call_count = sizeof calls / sizeof calls[0];
 

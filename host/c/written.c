@@ -1,88 +1,11 @@
-/* Samples that are written out here, from the page of the rules alone. A place of a book is counted from 0. */
-#include "check.h"
+/* Samples that are written out here, from the page of the rules alone: feeds and lookups. */
+#include "samples.h"
 
 #include <string.h>
 
-enum { RECORD = BOOK_RECORD_SIZE, TOO_MANY = BOOK_MOST_RECORDS + 1, ROUNDS = 8 };
 enum { BROKER = 7, CUSTOMER = 8, ACCOUNT = 9 };
 enum { PRICE = 600, VOLUME = 1000, SHARES = 100 };
 static const uint64_t MOST_VOLUME = 999999999999u;
-
-struct rows {
-    uint8_t bytes[TOO_MANY * RECORD];
-    size_t length;
-};
-
-/* What a sample is given, and what is expected of it. Each sample fills them anew. */
-static struct rows book, input, book_after, answer_after;
-
-static void begin(void)
-{
-    memset(&book, 0, sizeof book);
-    memset(&input, 0, sizeof input);
-    memset(&answer_after, 0, sizeof answer_after);
-}
-
-static void put(uint8_t *record, size_t at, size_t width, uint64_t value)
-{
-    size_t n;
-    for (n = 0; n < width; n++)
-        record[at + n] = (uint8_t)(value >> 8 * n);
-}
-
-static uint8_t *row_at(struct rows *rows, size_t place)
-{
-    return rows->bytes + place * RECORD;
-}
-
-static uint8_t *add(struct rows *rows, uint8_t kind)
-{
-    uint8_t *record = rows->bytes + rows->length;
-    rows->length += RECORD;
-    record[BOOK_AT_KIND] = kind;
-    return record;
-}
-
-static void add_free(struct rows *rows, size_t count)
-{
-    rows->length += count * RECORD;
-}
-
-static void set_symbol(uint8_t *record, const char *letters)
-{
-    memcpy(record + BOOK_AT_SYMBOL, letters, strlen(letters));
-}
-
-/* Has the call run several times, so that its areas lie differently. */
-static void hold(const char *name, uint8_t kind, size_t answer_length, int32_t status)
-{
-    static uint8_t answer[2 * BOOK_MOST_INPUTS * RECORD + 1];
-    struct sample sample = {call_of(kind), book.bytes, input.bytes, answer, 0, 0, 0, 0, NULL, NULL};
-    uint64_t round = 0;
-    size_t n;
-    for (n = 0; n < sizeof answer; n++)
-        answer[n] = (uint8_t)(201 + 7 * n);
-    sample.book_length = book.length;
-    sample.input_length = input.length;
-    sample.answer_length = answer_length;
-    sample.status = status;
-    sample.book_after = status == BOOK_DONE ? book_after.bytes : book.bytes;
-    sample.answer_after = status == BOOK_BAD_LENGTH ? answer : answer_after.bytes;
-    while (round < ROUNDS && check(&sample, round, name))
-        round++;
-}
-
-static void done(const char *name, uint8_t kind)
-{
-    hold(name, kind, answer_after.length, BOOK_DONE);
-}
-
-static void refused(const char *name, uint8_t kind, size_t answer_length, int32_t status)
-{
-    memset(&answer_after, 0, sizeof answer_after);
-    put(answer_after.bytes, BOOK_AT_N5, 4, (uint32_t)status);
-    hold(name, kind, answer_length, status);
-}
 
 /* Places 0 to 3: a broker, a customer, an account and a security of this symbol. */
 static void stand(const char *letters)
@@ -104,19 +27,6 @@ static void stand(const char *letters)
     set_symbol(row, letters);
     put(row, BOOK_AT_N1, 4, PRICE);
     put(row, BOOK_AT_M1, 8, VOLUME);
-}
-
-static void set_history(uint8_t *row, uint64_t id, uint8_t status, uint32_t time)
-{
-    row[BOOK_AT_KIND] = BOOK_KIND_HISTORY;
-    put(row, BOOK_AT_ID, 8, id);
-    row[BOOK_AT_STATUS] = status;
-    put(row, BOOK_AT_TIME, 4, time);
-}
-
-static void add_history(struct rows *rows, uint64_t id, uint8_t status, uint32_t time)
-{
-    set_history(add(rows, BOOK_KIND_HISTORY), id, status, time);
 }
 
 static uint8_t *add_trade(struct rows *rows, uint64_t id, uint8_t type, uint8_t status, uint32_t bid)
@@ -355,35 +265,16 @@ static void check_lookups(void)
     refused("and so is the answer's", BOOK_KIND_LOOKUP, 2 * input.length - 1, BOOK_BAD_LENGTH);
 }
 
-/* A good book and input of this call, of one record. */
-static void begin_good(uint8_t kind)
+static void begin_good_lookup(void)
 {
     add_two_trades();
-    if (kind == BOOK_KIND_LOOKUP)
-        put(add(&input, kind), BOOK_AT_ID, 8, 20);
-    else
-        add_entry("ABC", 500, 1, 0);
+    put(add(&input, BOOK_KIND_LOOKUP), BOOK_AT_ID, 8, 20);
 }
 
-static void check_lengths(uint8_t kind, size_t answers_for_each)
+static void begin_good_feed(void)
 {
-    static const size_t inputs[] = {0, 1, 63, 65, 127, 21 * RECORD};
-    static const size_t books[] = {0, 1, 63, 65, 10 * RECORD - 1, TOO_MANY * RECORD};
-    size_t n, one = answers_for_each * RECORD;
-    begin_good(kind);
-    for (n = 0; n < sizeof inputs / sizeof inputs[0]; n++) {
-        input.length = inputs[n];
-        refused("an input of a wrong length", kind, one, BOOK_BAD_LENGTH);
-    }
-    begin_good(kind);
-    refused("no answer area", kind, 0, BOOK_BAD_LENGTH);
-    refused("an answer area short by one", kind, one - 1, BOOK_BAD_LENGTH);
-    refused("an answer area long by one", kind, one + 1, BOOK_BAD_LENGTH);
-    refused("an answer area of a record too many", kind, one + RECORD, BOOK_BAD_LENGTH);
-    for (n = 0; n < sizeof books / sizeof books[0]; n++) {
-        book.length = books[n];
-        refused("a book of a wrong length", kind, one, BOOK_BAD_BOOK);
-    }
+    add_two_trades();
+    add_entry("ABC", 500, 1, 0);
 }
 
 /* The largest book there may be: the ten rows, and free places. */
@@ -404,7 +295,8 @@ void check_written(void)
     check_places();
     check_entries();
     check_lookups();
-    check_lengths(BOOK_KIND_LOOKUP, 2);
-    check_lengths(BOOK_KIND_FEED, 1);
+    refuses_lengths(BOOK_KIND_LOOKUP, begin_good_lookup, BOOK_MOST_INPUTS, 2);
+    refuses_lengths(BOOK_KIND_FEED, begin_good_feed, BOOK_MOST_INPUTS, 1);
     check_largest();
+    check_orders();
 }

@@ -3,6 +3,14 @@
 use second::calls::Call;
 
 extern "C" {
+    fn book_order(
+        book: *mut u8,
+        book_len: usize,
+        input: *const u8,
+        input_len: usize,
+        answer: *mut u8,
+        answer_len: usize,
+    ) -> i32;
     fn book_feed(
         book: *mut u8,
         book_len: usize,
@@ -38,4 +46,5 @@ macro_rules! on_slices {
 pub const CALLS: &[(Call, Run)] = &[
     (Call::Lookup, on_slices!(book_lookup)),
     (Call::Feed, on_slices!(book_feed)),
+    (Call::Order, on_slices!(book_order)),
 ];

@@ -1,5 +1,5 @@
 //! `calls [--seed S] [--cases N] [--seconds T] [--only NAME N]`: holds the library to the second program: N random
-//! cases of each call (else 20,000) and one sequence of calls on one book for every twenty of them. With --seconds
+//! cases of each call (else 20,000) and one sequence of calls on one book for every ten of them. With --seconds
 //! it goes on for so long instead, and with 0 until ten have failed. With --only it runs one case of a call, or one
 //! `sequence`, of the seed again. Prints how often each status came; its last line is 'N passed, M failed'.
 
@@ -17,7 +17,7 @@ use std::time::{Duration, Instant};
 
 const CASES: u64 = 20_000;
 /// There is one sequence for so many cases of each call, and it has so many steps.
-const CASES_PER_SEQUENCE: u64 = 20;
+const CASES_PER_SEQUENCE: u64 = 10;
 const STEPS: usize = 30;
 const MOST_SAID: u64 = 10;
 /// "No function takes more than 512 KiB of stack with all that it calls."
@@ -29,6 +29,7 @@ const SEQUENCE: u8 = 0;
 struct Tally {
     passed: u64,
     failed: u64,
+    sequences: u64,
     /// How often a call was expected to give a status, on its own and in sequences.
     alone: BTreeMap<(Call, i32), u64>,
     in_sequences: BTreeMap<(Call, i32), u64>,
@@ -84,6 +85,7 @@ fn run_case(tally: &mut Tally, seed: u64, call: Call, run: Run, number: u64) {
 /// Random calls in turn on one book, which the library keeps where it is. A call that wants the book spoilt gets
 /// another one. The sequence ends with the first fault.
 fn run_sequence(tally: &mut Tally, seed: u64, number: u64) {
+    tally.sequences += 1;
     let mut rng = Rng::of(seed, SEQUENCE, number);
     let records = match rng.below(200) {
         0 => MAX_RECORDS,
@@ -152,8 +154,10 @@ fn run_on_small_stacks(tally: &mut Tally, seed: u64) {
     }
 }
 
-/// Prints how often each status was expected, and counts a failure for each that never was of a case on its own.
+/// Prints how often each status was expected, and counts a failure for each that never was of a case on its own, and
+/// for each call that no sequence has accepted.
 fn report(tally: &mut Tally) {
+    println!("{} sequences of {STEPS} calls", tally.sequences);
     for (call, _) in CALLS {
         for (counts, where_from) in [(&tally.alone, ""), (&tally.in_sequences, " in sequences")] {
             let count = |status: &i32| counts.get(&(*call, *status)).unwrap_or(&0);
@@ -169,6 +173,10 @@ fn report(tally: &mut Tally) {
                 let fault = Some(format!("no case has status {status}"));
                 tally.count(|| call.name().to_string(), fault);
             }
+        }
+        if !tally.in_sequences.contains_key(&(*call, 0)) {
+            let fault = Some("no sequence has one that is accepted".to_string());
+            tally.count(|| call.name().to_string(), fault);
         }
     }
 }

@@ -1,0 +1,588 @@
+/* Samples of orders that are written out here, from the page of the rules alone. */
+#include "samples.h"
+
+#include <string.h>
+
+enum { ACCOUNT = 1, BROKER = 21, CUSTOMER = 31, TAX_RATE = 41, TIER = 2, EXCHANGE = 3, RATE = 50, TIME = 300 };
+enum { DUE_AFTER = 172800 };
+static const uint64_t MOST_NUMBER = 999999999999999u;
+
+/* The places of what stands in every book here. There is a band and a charge for each trade type, beginning here. */
+enum { AT_TAX_RATE = 2, AT_ACCOUNT = 4, AT_SECURITY = 5, AT_BANDS = 6, AT_CHARGES = 11, STANDING = 16 };
+
+static size_t band_at(uint8_t type)
+{
+    return AT_BANDS + type - BOOK_TMB;
+}
+
+static size_t charge_at(uint8_t type)
+{
+    return AT_CHARGES + type - BOOK_TMB;
+}
+
+/* Each type has its own; that of TMS is the 500 of the figures. */
+static uint32_t charge_of(uint8_t type)
+{
+    return 250u * type;
+}
+
+/* The account of the figures, without a trade. */
+static void stand(const char *letters, uint32_t last_price)
+{
+    uint8_t *row, type;
+    begin();
+    put(add(&book, BOOK_KIND_BROKER), BOOK_AT_PARTY, 4, BROKER);
+    row = add(&book, BOOK_KIND_CUSTOMER);
+    put(row, BOOK_AT_PARTY, 4, CUSTOMER);
+    row[BOOK_AT_TYPE] = TIER;
+    row = add(&book, BOOK_KIND_TAX_RATE);
+    put(row, BOOK_AT_PARTY, 4, TAX_RATE);
+    put(row, BOOK_AT_N1, 4, 20000);
+    row = add(&book, BOOK_KIND_CUSTOMER_RATE);
+    put(row, BOOK_AT_PARTY, 4, CUSTOMER);
+    put(row, BOOK_AT_N1, 4, TAX_RATE);
+    row = add(&book, BOOK_KIND_ACCOUNT);
+    put(row, BOOK_AT_PARTY, 4, ACCOUNT);
+    put(row, BOOK_AT_N1, 4, BROKER);
+    put(row, BOOK_AT_N2, 4, CUSTOMER);
+    row[BOOK_AT_TYPE] = 1;
+    put(row, BOOK_AT_M1, 8, 1000000);
+    row = add(&book, BOOK_KIND_SECURITY);
+    set_symbol(row, letters);
+    row[BOOK_AT_TYPE] = EXCHANGE;
+    put(row, BOOK_AT_N1, 4, last_price);
+    for (type = BOOK_TMB; type <= BOOK_TSL; type++) {
+        row = add(&book, BOOK_KIND_BAND);
+        row[BOOK_AT_TYPE] = type;
+        row[BOOK_AT_STATUS] = TIER;
+        row[BOOK_AT_FLAGS] = EXCHANGE;
+        put(row, BOOK_AT_N1, 4, 1);
+        put(row, BOOK_AT_N2, 4, 1000);
+        put(row, BOOK_AT_N3, 4, RATE);
+    }
+    for (type = BOOK_TMB; type <= BOOK_TSL; type++) {
+        row = add(&book, BOOK_KIND_CHARGE);
+        row[BOOK_AT_TYPE] = type;
+        row[BOOK_AT_STATUS] = TIER;
+        put(row, BOOK_AT_N1, 4, charge_of(type));
+    }
+}
+
+/* Three rows: a completed trade that is not cash, its history and its settlement. */
+static void add_completed(uint64_t id, int64_t shares, uint32_t price, uint32_t time)
+{
+    uint8_t *row = add(&book, BOOK_KIND_TRADE);
+    put(row, BOOK_AT_ID, 8, id);
+    row[BOOK_AT_TYPE] = shares > 0 ? BOOK_TMB : BOOK_TMS;
+    row[BOOK_AT_STATUS] = BOOK_CMPT;
+    put(row, BOOK_AT_PARTY, 4, ACCOUNT);
+    set_symbol(row, "ABC");
+    put(row, BOOK_AT_N1, 4, (uint64_t)(shares > 0 ? shares : -shares));
+    put(row, BOOK_AT_N2, 4, price);
+    put(row, BOOK_AT_N3, 4, price);
+    put(row, BOOK_AT_TIME, 4, time);
+    add_history(&book, id, BOOK_CMPT, time);
+    row = add(&book, BOOK_KIND_SETTLEMENT);
+    put(row, BOOK_AT_ID, 8, id);
+    put(row, BOOK_AT_M1, 8, (uint64_t)(-shares * (int64_t)price));
+    put(row, BOOK_AT_TIME, 4, time + DUE_AFTER);
+}
+
+/* Four rows: a completed trade and the lot that is left of it. */
+static void add_lot(uint64_t id, int64_t shares, uint32_t price, uint32_t time)
+{
+    uint8_t *row;
+    add_completed(id, shares, price, time);
+    row = add(&book, BOOK_KIND_LOT);
+    put(row, BOOK_AT_ID, 8, id);
+    put(row, BOOK_AT_PARTY, 4, ACCOUNT);
+    set_symbol(row, "ABC");
+    put(row, BOOK_AT_N1, 4, price);
+    put(row, BOOK_AT_M1, 8, (uint64_t)shares);
+    put(row, BOOK_AT_TIME, 4, time);
+}
+
+static void add_summary(int64_t shares)
+{
+    uint8_t *row = add(&book, BOOK_KIND_SUMMARY);
+    put(row, BOOK_AT_PARTY, 4, ACCOUNT);
+    set_symbol(row, "ABC");
+    put(row, BOOK_AT_M1, 8, (uint64_t)shares);
+}
+
+/* The book of the figures, without trade 12: the lots are at places 16 to 24, and places 25 to 27 are free. */
+static void stand_figures(void)
+{
+    stand("ABC", 3000);
+    add_lot(10, 100, 2000, 100);
+    add_lot(11, 50, 2500, 200);
+    add_summary(150);
+    add_free(&book, 3);
+}
+
+/* The input: an order of account 1. */
+static void ask(const char *letters, uint8_t type, uint8_t flags, uint32_t shares, uint32_t bid)
+{
+    uint8_t *row;
+    memset(&input, 0, sizeof input);
+    row = add(&input, BOOK_KIND_ORDER);
+    row[BOOK_AT_TYPE] = type;
+    row[BOOK_AT_FLAGS] = flags;
+    put(row, BOOK_AT_PARTY, 4, ACCOUNT);
+    set_symbol(row, letters);
+    put(row, BOOK_AT_N1, 4, shares);
+    put(row, BOOK_AT_N2, 4, bid);
+    put(row, BOOK_AT_TIME, 4, TIME);
+}
+
+struct estimate {
+    uint32_t price, commission;
+    uint64_t bought, sold, tax;
+};
+
+/* Of 120 shares sold from the lots of the figures, FIFO: at 3,000, the last price, and at a bid of 2,900. */
+static const struct estimate at_last = {3000, 1800, 250000, 360000, 22000};
+static const struct estimate at_bid = {2900, 1740, 250000, 348000, 19600};
+
+/* Expects this answer, and the book as it is. */
+static void expect_answer(uint64_t id, struct estimate estimate)
+{
+    uint8_t *row;
+    memset(&answer_after, 0, sizeof answer_after);
+    row = add(&answer_after, BOOK_KIND_ORDER);
+    put(row, BOOK_AT_ID, 8, id);
+    put(row, BOOK_AT_SYMBOL, 8, estimate.tax);
+    put(row, BOOK_AT_N1, 4, charge_of(input.bytes[BOOK_AT_TYPE]));
+    put(row, BOOK_AT_N2, 4, RATE);
+    put(row, BOOK_AT_N3, 4, estimate.price);
+    put(row, BOOK_AT_M1, 8, estimate.bought);
+    put(row, BOOK_AT_M2, 8, estimate.sold);
+    book_after = book;
+}
+
+/* Expects the trade on this place; type, account, symbol and shares are the input's. */
+static void expect_trade(size_t place, uint64_t id, uint8_t status, uint8_t flags, struct estimate estimate)
+{
+    uint8_t *row = row_at(&book_after, place);
+    row[BOOK_AT_KIND] = BOOK_KIND_TRADE;
+    row[BOOK_AT_TYPE] = input.bytes[BOOK_AT_TYPE];
+    row[BOOK_AT_STATUS] = status;
+    row[BOOK_AT_FLAGS] = flags;
+    put(row, BOOK_AT_PARTY, 4, ACCOUNT);
+    put(row, BOOK_AT_ID, 8, id);
+    memcpy(row + BOOK_AT_SYMBOL, input.bytes + BOOK_AT_SYMBOL, 8);
+    memcpy(row + BOOK_AT_N1, input.bytes + BOOK_AT_N1, 4);
+    put(row, BOOK_AT_N2, 4, estimate.price);
+    put(row, BOOK_AT_N4, 4, charge_of(input.bytes[BOOK_AT_TYPE]));
+    put(row, BOOK_AT_M1, 8, estimate.commission);
+    put(row, BOOK_AT_TIME, 4, TIME);
+}
+
+/* Expects a market order to be accepted: its trade and its history row on these places. */
+static void expect_market(uint64_t id, uint8_t flags, struct estimate estimate, size_t trade, size_t history)
+{
+    expect_answer(id, estimate);
+    expect_trade(trade, id, BOOK_SBMT, flags, estimate);
+    set_history(row_at(&book_after, history), id, BOOK_SBMT, TIME);
+}
+
+/* The same for one that waits, and its request on the third place. */
+static void expect_waiting(uint64_t id, struct estimate estimate, size_t trade, size_t history, size_t request)
+{
+    uint8_t *row = row_at(&book_after, request);
+    expect_answer(id, estimate);
+    expect_trade(trade, id, BOOK_PNDG, 0, estimate);
+    set_history(row_at(&book_after, history), id, BOOK_PNDG, TIME);
+    row[BOOK_AT_KIND] = BOOK_KIND_REQUEST;
+    row[BOOK_AT_TYPE] = input.bytes[BOOK_AT_TYPE];
+    put(row, BOOK_AT_PARTY, 4, BROKER);
+    put(row, BOOK_AT_ID, 8, id);
+    memcpy(row + BOOK_AT_SYMBOL, input.bytes + BOOK_AT_SYMBOL, 8);
+    memcpy(row + BOOK_AT_N1, input.bytes + BOOK_AT_N1, 4);
+    put(row, BOOK_AT_N2, 4, estimate.price);
+}
+
+static void ordered(const char *name)
+{
+    done(name, BOOK_KIND_ORDER);
+}
+
+static void not_ordered(const char *name, int32_t status)
+{
+    refused(name, BOOK_KIND_ORDER, RECORD, status);
+}
+
+/* A TMS on the book of the figures. */
+static void sell(const char *name, uint8_t flags, uint32_t shares, struct estimate estimate)
+{
+    stand_figures();
+    ask("ABC", BOOK_TMS, flags, shares, 0);
+    expect_market(12, flags, estimate, 25, 26);
+    ordered(name);
+}
+
+static void check_figures(void)
+{
+    const struct estimate lifo = {3000, 1800, 265000, 360000, 19000};
+    const struct estimate all = {3000, 2250, 325000, 450000, 25000};
+    const struct estimate more = {3000, 3000, 325000, 450000, 25000};
+    const struct estimate short_lot = {2900, 1160, 145000, 150000, 1000};
+    const struct estimate none = {3000, 1800, 0, 0, 0};
+    sell("P1: an order of 120, FIFO", 0, 120, at_last);
+    sell("P1, cash", BOOK_FLAG_CASH, 120, at_last);
+    sell("P2: an order of 120, LIFO", BOOK_FLAG_LIFO, 120, lifo);
+    sell("P2, cash", BOOK_FLAG_CASH + BOOK_FLAG_LIFO, 120, lifo);
+    sell("P3: an order of 150", 0, 150, all);
+    sell("P4: an order of 200, of which 150 close lots", 0, 200, more);
+    stand("ABC", 2900);
+    add_lot(10, -50, 3000, 100);
+    add_summary(-50);
+    add_free(&book, 3);
+    ask("ABC", BOOK_TMB, 0, 80, 0);
+    expect_market(11, 0, short_lot, 21, 22);
+    ordered("P5: an order to buy 80 over a lot of -50");
+    stand_figures();
+    ask("ABC", BOOK_TMB, 0, 120, 0);
+    expect_market(12, 0, none, 25, 26);
+    ordered("a buy closes no positive lot");
+}
+
+/* Makes the lot that was added last one of this account and symbol, and adds its summary. */
+static void give_last_lot(uint32_t account, const char *letters)
+{
+    uint8_t *lot = book.bytes + book.length - RECORD, *trade = lot - 3 * RECORD, *summary;
+    put(trade, BOOK_AT_PARTY, 4, account);
+    put(lot, BOOK_AT_PARTY, 4, account);
+    set_symbol(trade, letters);
+    set_symbol(lot, letters);
+    summary = add(&book, BOOK_KIND_SUMMARY);
+    put(summary, BOOK_AT_PARTY, 4, account);
+    set_symbol(summary, letters);
+    memcpy(summary + BOOK_AT_M1, lot + BOOK_AT_M1, 8);
+}
+
+static void check_lots(void)
+{
+    stand("ABC", 3000);
+    add_lot(10, 50, 2500, 200);
+    add_lot(11, 100, 2000, 100);
+    add_summary(150);
+    add_free(&book, 2);
+    ask("ABC", BOOK_TMS, 0, 120, 0);
+    expect_market(12, 0, at_last, 25, 26);
+    ordered("lots by time and not by number");
+    stand("ABC", 3000);
+    add_lot(8, 70, 1000, 50);
+    give_last_lot(ACCOUNT + 1, "ABC");
+    add_lot(9, 70, 1000, 50);
+    give_last_lot(ACCOUNT, "ABCD");
+    memcpy(add(&book, BOOK_KIND_ACCOUNT), row_at(&book, AT_ACCOUNT), RECORD);
+    put(row_at(&book, 26), BOOK_AT_PARTY, 4, ACCOUNT + 1);
+    memcpy(add(&book, BOOK_KIND_SECURITY), row_at(&book, AT_SECURITY), RECORD);
+    set_symbol(row_at(&book, 27), "ABCD");
+    add_lot(10, 100, 2000, 100);
+    add_lot(11, 50, 2500, 200);
+    add_summary(150);
+    add_free(&book, 2);
+    ask("ABC", BOOK_TMS, 0, 120, 0);
+    expect_market(12, 0, at_last, 37, 38);
+    ordered("lots of another account and of another symbol stay out");
+}
+
+/* Lots of one time: FIFO begins with the lower number, LIFO with the higher. */
+static void check_ties(void)
+{
+    const struct estimate lower = {3000, 15, 2000, 3000, 200};
+    const struct estimate higher = {3000, 15, 2500, 3000, 100};
+    stand("ABC", 3000);
+    add_lot(11, 50, 2500, 100);
+    add_lot(10, 100, 2000, 100);
+    add_summary(150);
+    add_free(&book, 2);
+    ask("ABC", BOOK_TMS, 0, 1, 0);
+    expect_market(12, 0, lower, 25, 26);
+    ordered("FIFO, lots of one time");
+    ask("ABC", BOOK_TMS, BOOK_FLAG_LIFO, 1, 0);
+    expect_market(12, BOOK_FLAG_LIFO, higher, 25, 26);
+    ordered("LIFO, lots of one time");
+}
+
+/* One share bought at this price, without lots. */
+static void buy_one(const char *name, uint32_t price, uint32_t commission)
+{
+    const struct estimate estimate = {price, commission, 0, 0, 0};
+    stand("ABC", price);
+    add_free(&book, 2);
+    ask("ABC", BOOK_TMB, 0, 1, 0);
+    expect_market(1, 0, estimate, STANDING, STANDING + 1);
+    ordered(name);
+}
+
+/* One share sold at 3,000 that was bought at this price, by an account of this tax status. */
+static void gain(uint32_t bought_at, uint8_t tax_status)
+{
+    stand("ABC", 3000);
+    row_at(&book, AT_ACCOUNT)[BOOK_AT_TYPE] = tax_status;
+    add_lot(10, 1, bought_at, 100);
+    add_summary(1);
+    add_free(&book, 2);
+    ask("ABC", BOOK_TMS, 0, 1, 0);
+}
+
+static void taxed(const char *name, uint32_t bought_at, uint8_t tax_status, uint64_t tax)
+{
+    const struct estimate estimate = {3000, 15, bought_at, 3000, tax};
+    gain(bought_at, tax_status);
+    expect_market(11, 0, estimate, 21, 22);
+    ordered(name);
+}
+
+static void check_cents(void)
+{
+    buy_one("P6: 1 share at 100, rate 50", 100, 1);
+    buy_one("P6: 1 share at 99, rate 50", 99, 0);
+    taxed("P7: a gain of 3", 2997, 1, 1);
+    gain(2998, 1);
+    not_ordered("P7: a gain of 2", BOOK_ORDER_NO_TAX);
+    taxed("a gain of 3, tax status 2", 2997, 2, 1);
+    gain(2998, 2);
+    not_ordered("a gain of 2, tax status 2", BOOK_ORDER_NO_TAX);
+    taxed("a gain of 2, tax status 0", 2998, 0, 0);
+    taxed("a gain of 1,000, tax status 0", 2000, 0, 0);
+    taxed("no gain", 3000, 1, 0);
+    taxed("a loss", 3001, 1, 0);
+}
+
+/* One share of this symbol, which has a security, bought. */
+static void buy_of(const char *letters)
+{
+    stand("ABCDEFG", 3000);
+    add_free(&book, 2);
+    ask(letters, BOOK_TMB, 0, 1, 0);
+}
+
+static void check_symbols(void)
+{
+    const struct estimate estimate = {3000, 15, 0, 0, 0};
+    buy_of("ABCDEFG");
+    expect_market(1, 0, estimate, STANDING, STANDING + 1);
+    ordered("P9: an order with a symbol of 7 letters");
+    buy_of("ABCDEFGH");
+    not_ordered("P9: an order with a symbol of 8 letters", BOOK_BAD_INPUT);
+    buy_of("ABCDEF");
+    not_ordered("a security's symbol without its last letter", BOOK_ORDER_NO_SECURITY);
+    stand_figures();
+    ask("ABC", BOOK_TMS, 0, 120, 0);
+    input.bytes[BOOK_AT_SYMBOL + 4] = 'X';
+    not_ordered("an order with a stray byte after the symbol's zero", BOOK_BAD_INPUT);
+    input.bytes[BOOK_AT_SYMBOL + 4] = 0;
+    input.bytes[BOOK_AT_SYMBOL + 7] = 'X';
+    not_ordered("an order with a stray byte on the symbol's fence", BOOK_BAD_INPUT);
+}
+
+/* The book of the figures with free places in between: 16, 21, 26 and 28. */
+static void check_places(void)
+{
+    stand("ABC", 3000);
+    add_free(&book, 1);
+    add_lot(10, 100, 2000, 100);
+    add_free(&book, 1);
+    add_lot(11, 50, 2500, 200);
+    add_free(&book, 1);
+    add_summary(150);
+    add_free(&book, 1);
+    ask("ABC", BOOK_TLS, 0, 120, 2900);
+    expect_waiting(12, at_bid, 16, 21, 26);
+    ordered("trade, history and request on the lowest free places");
+    ask("ABC", BOOK_TSL, 0, 120, 2900);
+    expect_waiting(12, at_bid, 16, 21, 26);
+    ordered("a stop loss waits and sells");
+    ask("ABC", BOOK_TLB, 0, 120, 2900);
+    expect_waiting(12, (struct estimate){2900, 1740, 0, 0, 0}, 16, 21, 26);
+    ordered("a limit buy waits and buys");
+    ask("ABC", BOOK_TMS, 0, 120, 0);
+    expect_market(12, 0, at_last, 16, 21);
+    ordered("a market order is submitted and has no request");
+}
+
+static void check_roll_back(void)
+{
+    stand_figures();
+    ask("ABC", BOOK_TMS, BOOK_FLAG_ROLL_BACK, 120, 0);
+    expect_answer(12, at_last);
+    ordered("a market order rolled back");
+    ask("ABC", BOOK_TLS, BOOK_FLAG_ROLL_BACK + BOOK_FLAG_CASH, 120, 2900);
+    expect_answer(12, at_bid);
+    ordered("a limit order rolled back");
+    ask("ABC", BOOK_TMS, BOOK_FLAG_ROLL_BACK + BOOK_FLAG_LIFO, 120, 0);
+    expect_answer(12, (struct estimate){3000, 1800, 265000, 360000, 19000});
+    ordered("a LIFO order rolled back");
+    book.length -= 2 * RECORD;
+    not_ordered("an order rolled back, without room", BOOK_NO_ROOM);
+}
+
+static void check_room(void)
+{
+    stand_figures();
+    ask("ABC", BOOK_TLS, 0, 120, 2900);
+    expect_waiting(12, at_bid, 25, 26, 27);
+    ordered("a limit order, 3 places free");
+    book.length -= RECORD;
+    not_ordered("a limit order, 2 places free", BOOK_NO_ROOM);
+    ask("ABC", BOOK_TMS, 0, 120, 0);
+    expect_market(12, 0, at_last, 25, 26);
+    ordered("a market order, 2 places free");
+    book.length -= RECORD;
+    not_ordered("a market order, 1 place free", BOOK_NO_ROOM);
+    book.length -= RECORD;
+    not_ordered("a market order, no place free", BOOK_NO_ROOM);
+}
+
+/* A book that has trades 10 and this one, in this order, and then 7; the order's number, or 0 if it is refused. */
+static void number_after(const char *name, uint64_t largest, uint64_t number)
+{
+    const struct estimate estimate = {3000, 15, 0, 0, 0};
+    stand("ABC", 3000);
+    add_completed(10, 1, 2000, 100);
+    add_completed(largest, 1, 2000, 100);
+    add_completed(7, 1, 2000, 100);
+    add_free(&book, 2);
+    ask("ABC", BOOK_TMS, 0, 1, 0);
+    if (number == 0) {
+        not_ordered(name, BOOK_OVER_LIMIT);
+        return;
+    }
+    expect_market(number, 0, estimate, STANDING + 9, STANDING + 10);
+    ordered(name);
+}
+
+static void check_numbers(void)
+{
+    buy_one("the first trade of a book is number 1", 3000, 15);
+    number_after("one more than the largest number", 400, 401);
+    number_after("the largest number there is", MOST_NUMBER - 1, MOST_NUMBER);
+    number_after("a number above it", MOST_NUMBER, 0);
+}
+
+static void check_bands(void)
+{
+    stand("ABC", 3000);
+    add_free(&book, 2);
+    ask("ABC", BOOK_TMS, 0, 1000, 0);
+    expect_market(1, 0, (struct estimate){3000, 15000, 0, 0, 0}, STANDING, STANDING + 1);
+    ordered("as many shares as the band goes to");
+    ask("ABC", BOOK_TMS, 0, 1001, 0);
+    not_ordered("one share more", BOOK_ORDER_NO_RATE);
+    put(row_at(&book, band_at(BOOK_TMS)), BOOK_AT_N1, 4, 20);
+    ask("ABC", BOOK_TMS, 0, 20, 0);
+    expect_market(1, 0, (struct estimate){3000, 300, 0, 0, 0}, STANDING, STANDING + 1);
+    ordered("as many shares as the band begins with");
+    ask("ABC", BOOK_TMS, 0, 19, 0);
+    not_ordered("one share less", BOOK_ORDER_NO_RATE);
+    memset(row_at(&book, charge_at(BOOK_TMS)), 0, RECORD);
+    not_ordered("and there is no charge", BOOK_ORDER_NO_RATE);
+    ask("ABC", BOOK_TMS, 0, 20, 0);
+    not_ordered("no charge", BOOK_ORDER_NO_CHARGE);
+}
+
+/* An order with a gain of 1,000 on a book without a free place, in which this is the largest number. */
+static void crowd(uint64_t largest)
+{
+    stand("ABC", 3000);
+    add_lot(largest, 1, 2000, 100);
+    add_summary(1);
+    ask("ABC", BOOK_TMS, 0, 1, 0);
+}
+
+/* Each fault comes before those that were there already. */
+static void check_order_of_checking(void)
+{
+    crowd(MOST_NUMBER - 1);
+    not_ordered("no room", BOOK_NO_ROOM);
+    crowd(MOST_NUMBER);
+    not_ordered("and no number", BOOK_OVER_LIMIT);
+    put(row_at(&book, charge_at(BOOK_TMS)), BOOK_AT_N1, 4, 0);
+    not_ordered("and a charge of 0", BOOK_ORDER_NO_CHARGE);
+    put(row_at(&book, band_at(BOOK_TMS)), BOOK_AT_N3, 4, 0);
+    not_ordered("and a rate of 0", BOOK_ORDER_NO_RATE);
+    put(row_at(&book, AT_TAX_RATE), BOOK_AT_N1, 4, 0);
+    not_ordered("and a gain without tax", BOOK_ORDER_NO_TAX);
+    set_symbol(input.bytes, "ABD");
+    not_ordered("and no such security", BOOK_ORDER_NO_SECURITY);
+    put(input.bytes, BOOK_AT_PARTY, 4, ACCOUNT + 1);
+    not_ordered("and no such account", BOOK_ORDER_NO_ACCOUNT);
+    put(input.bytes, BOOK_AT_N2, 4, 1);
+    not_ordered("and a market order with a bid", BOOK_BAD_INPUT);
+    row_at(&book, AT_ACCOUNT)[BOOK_AT_TYPE] = 3;
+    not_ordered("and the book is not sound", BOOK_UNSOUND);
+    book.length--;
+    not_ordered("and its length is wrong", BOOK_BAD_BOOK);
+    refused("and so is the answer's", BOOK_KIND_ORDER, RECORD - 1, BOOK_BAD_LENGTH);
+}
+
+/* One field of a good limit order broken. */
+static void broken(const char *name, size_t at, size_t width, uint64_t value)
+{
+    stand_figures();
+    ask("ABC", BOOK_TLS, 0, 120, 2900);
+    put(input.bytes, at, width, value);
+    not_ordered(name, BOOK_BAD_INPUT);
+}
+
+static void check_fields(void)
+{
+    broken("an order of another kind", BOOK_AT_KIND, 1, BOOK_KIND_RESULT);
+    broken("trade type 0", BOOK_AT_TYPE, 1, 0);
+    broken("trade type 6", BOOK_AT_TYPE, 1, 6);
+    broken("flag 8", BOOK_AT_FLAGS, 1, 8);
+    broken("account 0", BOOK_AT_PARTY, 4, 0);
+    broken("account 1,000,000,000", BOOK_AT_PARTY, 4, 1000000000);
+    broken("an order of no share", BOOK_AT_N1, 4, 0);
+    broken("an order of 1,000,000 shares", BOOK_AT_N1, 4, 1000000);
+    broken("a limit order without a bid", BOOK_AT_N2, 4, 0);
+    broken("a bid of 100,000,000", BOOK_AT_N2, 4, 100000000);
+    broken("a time too late", BOOK_AT_TIME, 4, 4000000001u);
+    broken("an unused status", BOOK_AT_STATUS, 1, 1);
+    broken("an unused number", BOOK_AT_ID, 8, 1);
+    broken("an unused n5", BOOK_AT_N5, 4, 1);
+}
+
+static void begin_good(void)
+{
+    stand_figures();
+    ask("ABC", BOOK_TMS, 0, 120, 0);
+}
+
+/* The largest book there may be, with its last three places free. */
+static void check_largest(void)
+{
+    size_t place;
+    stand_figures();
+    for (place = 25; place < BOOK_MOST_RECORDS - 3; place++) {
+        uint8_t *row = row_at(&book, place);
+        row[BOOK_AT_KIND] = BOOK_KIND_BROKER;
+        put(row, BOOK_AT_PARTY, 4, 1000 + place);
+    }
+    book.length = BOOK_MOST_RECORDS * RECORD;
+    ask("ABC", BOOK_TLS, 0, 120, 2900);
+    expect_waiting(12, at_bid, BOOK_MOST_RECORDS - 3, BOOK_MOST_RECORDS - 2, BOOK_MOST_RECORDS - 1);
+    ordered("an order on a book of 4,096 records");
+}
+
+void check_orders(void)
+{
+    check_figures();
+    check_lots();
+    check_ties();
+    check_cents();
+    check_symbols();
+    check_places();
+    check_roll_back();
+    check_room();
+    check_numbers();
+    check_bands();
+    check_order_of_checking();
+    check_fields();
+    refuses_lengths(BOOK_KIND_ORDER, begin_good, 1, 1);
+    check_largest();
+}
