@@ -17,10 +17,10 @@ use shelf::put::add;
 fn first_status(input: Row) -> u8
     ensures { λ r. ⌜ r ≡ firstStatus input ⌝ }
 {
-    if input.form <= TradeType::TMS {
-        return TradeStatus::SUBMITTED;
+    if input.form > TradeType::TMS {
+        return TradeStatus::PENDING;
     }
-    TradeStatus::PENDING
+    TradeStatus::SUBMITTED
 }
 
 // Its flags are cash and LIFO: roll back is the order's alone.
@@ -106,8 +106,10 @@ pub fn post(
         ⌜ rows (now (book .exit))
         ≡ fill sameRow nothing (addedRows input broker number price charge commission) (rows (now (book .entry))) ⌝ }
 {
-    let next = add(book, 0, trade_row(input, number, price, charge, commission));
-    let last = add(book, next, history_row(input, number));
+    let trade = trade_row(input, number, price, charge, commission);
+    let history = history_row(input, number);
+    let next = add(book, 0, trade);
+    let last = add(book, next, history);
     if input.form <= TradeType::TMS {
         return;
     }
