@@ -1,0 +1,49 @@
+-- Each row is put into the lowest place that is free, and the next search begins behind it; the request comes last,
+-- where the order waits. Assumes nothing.
+use native.Mathlib.Omega.{arith}
+use borrow.Author.Needs.{needs}
+use Rattle.order.specs.Post.{submitted-now, waits}
+use Rattle.order.proofs.post.post.Statement.{statement}
+use Rattle.order.proofs.post.post.Tie as tie
+
+returns : tie.Need-returns
+returns c =
+    let second = c .before .before .before .before in
+    let first = second .before .before .before .before in
+    let history = first .before .before in
+    let trade = history .before in
+    let start = trade .before .before in
+    let v = start .args in
+    submitted-now (v .input) (v .broker) (v .number) (v .price) (v .charge) (v .commission) _ _ _ (start .pre)
+    (trade .trade-row .ensures) (first .add .ensures .0) (first .add .ensures .1 .1) (history .history-row .ensures)
+    (second .add2 .ensures .0) (second .add2 .ensures .1 .1) (omega arith)
+
+returns-2 : tie.Need-returns-2
+returns-2 c =
+    let third = c .before .before in
+    let test = third .before .before .before in
+    let second = test .before .before .before .before in
+    let first = second .before .before .before .before in
+    let history = first .before .before in
+    let trade = history .before in
+    let start = trade .before .before in
+    let v = start .args in
+    waits (v .input) (v .broker) (v .number) (v .price) (v .charge) (v .commission) _ _ _ (start .pre)
+    (trade .trade-row .ensures) (first .add .ensures .0) (first .add .ensures .1 .1) (history .history-row .ensures)
+    (second .add2 .ensures .0) (second .add2 .ensures .1 .1) _ (omega (arith, test .if1 .left))
+    (third .before .request-row .ensures) (third .add3 .ensures .0) (third .add3 .ensures .1 .1)
+
+pub post-spec : {M : Type 1} → statement M
+post-spec =
+    tie.close
+    (tie.spec
+    (λ c κs. search needs)
+    (λ c κs. search needs)
+    (λ c κs. search needs)
+    (λ c κs. search needs)
+    (λ c. search needs)
+    returns
+    (λ c κs. search needs)
+    (λ c κs. search needs)
+    (λ c. search needs)
+    returns-2)

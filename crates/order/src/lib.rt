@@ -1,0 +1,2 @@
+// Trade-Order, on a book that is known to be sound.
+pub mod post;
