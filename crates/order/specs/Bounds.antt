@@ -1,8 +1,8 @@
 -- What a sound book and a good input keep in range of all that an order works with. Assumes nothing.
 use mathlib.Core.Path.{_≡_, refl, sym, subst, _∙_}
-use mathlib.Core.Bool.{Bool, true, false, cond, _&&_, false≢true}
+use mathlib.Core.Bool.{Bool, true, false, cond, false≢true}
 use mathlib.Core.List.{List, [], _∷_, List·Memᴰ, List·Memᴰ·head, List·Memᴰ·tail}
-use Prim.Native.Nat.{ℕ, _+_, _≤_, _<_, max}
+use Prim.Native.Nat.{ℕ, _≤_}
 use native.Mathlib.Omega.{arith}
 use lib.Dec.{eqb, leb}
 use lib.ListN.{length}
@@ -13,16 +13,16 @@ use Rattle.laws.specs.Search.{count, every, largest, place, the, total}
 use Rattle.laws.specs.Tests.{and-left, and-right}
 use Rattle.record.specs.Codes.{kindBand, kindCustomer, kindCustomerRate, kindSecurity, kindTrade}
 use Rattle.record.specs.declared.row.Row.{Row}
-use Rattle.rules.specs.Meaning.{means-band, means-free, means-order-input, means-security, means-trade}
-use Rattle.rules.specs.Ranges.{commissionPart, priceMost, sharesMost, taxPart, tradeNumber}
-use Rattle.rules.specs.Rules.{as-kind, fits, orderInput}
+use Rattle.rules.specs.Meaning.{means-band, means-security, means-trade}
+use Rattle.rules.specs.Ranges.{commissionPart, priceMost, taxPart, tradeNumber}
+use Rattle.rules.specs.Rules.{as-kind, fits}
 use Rattle.model.specs.Band.{bandFor, bandRate}
 use Rattle.model.specs.Names.{aCustomer, aSecurity, named}
-use Rattle.model.specs.Order.{atMarket, tradeId}
+use Rattle.model.specs.Order.{tradeId}
 use Rattle.model.specs.Rows.{found, hasKey, is, nothing, there}
 use Rattle.model.specs.Sound.{rateOf, ratesOf, s1, s2, sound}
 use Rattle.model.specs.SoundMeans.{means-s1, means-s2, means-sound}
-use Rattle.shelf.specs.Put.{found-has, found-none}
+use Rattle.shelf.specs.Put.{found-has}
 use Rattle.tables.specs.Names.{by-party, by-symbol}
 
 pub sound-s1 : (rs : List Row) → sound rs ≡ true → s1 rs ≡ true
@@ -31,52 +31,42 @@ sound-s1 rs e = means-s1 rs .holds (means-sound rs .shows e .s1)
 pub sound-s2 : (rs : List Row) → sound rs ≡ true → s2 rs ≡ true
 sound-s2 rs e = means-s2 rs .holds (means-sound rs .shows e .s2)
 
--- ---- a row that is looked for fits, there or not
-the-fits : (p : Row → Bool) (rs : List Row) → s1 rs ≡ true → leb 1 (count p rs) ≡ true
-    → fits (the p nothing rs) ≡ true
+-- ---- a row that is looked for: what every such row that fits is bound by, and nothing too, binds it
+the-most : (p : Row → Bool) (f : Row → ℕ) (m : ℕ) (rs : List Row) → s1 rs ≡ true
+    → ((r : Row) → fits r ≡ true → p r ≡ true → f r ≤ m) → f nothing ≤ m → f (the p nothing rs) ≤ m
 unfolding s1
-the-fits p rs e h =
-    rw (the-place p nothing rs)
-    (every-at fits nothing rs (place p rs) e (ltb-true (place p rs) (length rs) (sym (some-place p rs) ∙ h)))
+the-most p f m rs e each none = go (leb 1 (count p rs)) refl
+  where
+    go : (t : Bool) → leb 1 (count p rs) ≡ t → f (the p nothing rs) ≤ m
+    go true h =
+        let inside = ltb-true (place p rs) (length rs) (sym (some-place p rs) ∙ h) in
+        let good : fits (the p nothing rs) ≡ true = rw (the-place p nothing rs) (every-at fits nothing rs (place p rs) e inside) in
+        each (the p nothing rs) good (the-passes p nothing rs h)
+    go false h = rw (the-none p nothing rs h) none
 
 pub rate-most : (rs : List Row) (form tier exchange shares : ℕ) → s1 rs ≡ true
     → bandRate rs form tier exchange shares ≤ commissionPart .high
 unfolding bandRate
-rate-most rs form tier exchange shares e = go (leb 1 (count p rs)) refl
-  where
-    p : Row → Bool
-    p = bandFor form tier exchange shares
-
-    r : Row
-    r = the p nothing rs
-
-    go : (t : Bool) → leb 1 (count p rs) ≡ t → r .n3 ≤ commissionPart .high
-    go true h =
-        let w = the-passes p nothing rs h in
-        let a = and-left _ (leb shares (r .n2)) w in
-        let b = and-left _ (leb (r .n1) shares) a in
-        let c = and-left _ (eqb (r .flags) exchange) b in
-        let d = and-left _ (eqb (r .status) tier) c in
-        let k = eqb-true (r .kind) kindBand (and-left _ (eqb (r .form) form) d) in
-        means-band r .shows (as-kind kindBand r k ∙ the-fits p rs e h) .0 .2 .2 .2 .2 .2 .2 .2 .2 .2 .1
-    go false h = let z : r ≡ nothing = the-none p nothing rs h in rw z (omega arith)
+rate-most rs form tier exchange shares e =
+    the-most (bandFor form tier exchange shares) (λ (r : Row). r .n3) (commissionPart .high) rs e
+    (λ r f h.
+    let to = and-left _ (leb shares (r .n2)) h in
+    let from = and-left _ (leb (r .n1) shares) to in
+    let at = and-left _ (eqb (r .flags) exchange) from in
+    let of = and-left _ (eqb (r .status) tier) at in
+    let k = eqb-true (r .kind) kindBand (and-left _ (eqb (r .form) form) of) in
+    means-band r .shows (as-kind kindBand r k ∙ f) .0 .2 .2 .2 .2 .2 .2 .2 .2 .2 .1)
+    (omega arith)
 
 pub price-most : (rs : List Row) (y : ℕ) → s1 rs ≡ true → found (aSecurity y) rs .n1 ≤ priceMost
 unfolding found
-price-most rs y e = go (leb 1 (count p rs)) refl
-  where
-    p : Row → Bool
-    p = hasKey (aSecurity y)
-
-    r : Row
-    r = the p nothing rs
-
-    go : (t : Bool) → leb 1 (count p rs) ≡ t → r .n1 ≤ priceMost
-    go true h =
-        let own = sym (by-symbol y r) ∙ the-passes p nothing rs h in
-        let k = eqb-true (r .kind) kindSecurity (and-left (is kindSecurity r) (eqb (r .symbol) y) own) in
-        means-security r .shows (as-kind kindSecurity r k ∙ the-fits p rs e h) .0 .2 .2 .2 .2 .2 .2 .2 .1
-    go false h = let z : r ≡ nothing = the-none p nothing rs h in rw z (omega arith)
+price-most rs y e =
+    the-most (hasKey (aSecurity y)) (λ (r : Row). r .n1) priceMost rs e
+    (λ r f h.
+    let own = and-left (is kindSecurity r) (eqb (r .symbol) y) (sym (by-symbol y r) ∙ h) in
+    let k = eqb-true (r .kind) kindSecurity own in
+    means-security r .shows (as-kind kindSecurity r k ∙ f) .0 .2 .2 .2 .2 .2 .2 .2 .1)
+    (omega arith)
 
 -- ---- trade numbers
 number-fits : (r : Row) → fits r ≡ true → tradeId r ≤ tradeNumber .high

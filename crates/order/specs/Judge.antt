@@ -1,7 +1,7 @@
 -- The status of an order, told from what it read and worked out, and the laws of the code that comes to it. It is the
 -- status of the rules. Assumes nothing.
 use mathlib.Core.Path.{_≡_, refl, sym, ap, _∙_}
-use mathlib.Core.Bool.{Bool, true, false, cond, not, false≢true}
+use mathlib.Core.Bool.{Bool, true, false, cond, not}
 use mathlib.Core.List.{List, [], _∷_}
 use Prim.Native.Nat.{ℕ, suc, _≤_, _<_}
 use native.Mathlib.Omega.{arith}
@@ -20,7 +20,7 @@ use Rattle.model.specs.Call.{isDone}
 use Rattle.model.specs.Flags.{rollBack}
 use Rattle.model.specs.Money.{commissionOf}
 use Rattle.model.specs.Order.{View, atMarket, finish, order, plan, posting, priceUsed, view}
-use Rattle.model.specs.Plan.{Outcome, accepted, checked, finished, limited, pick, posted, refused, room}
+use Rattle.model.specs.Plan.{Outcome, accepted, checked, finished, limited, pick, post, posted, refuse, refused, room}
 use Rattle.model.specs.Rows.{is, nothing, sameRow}
 use Rattle.order.specs.declared.estimate.Estimate.{Estimate}
 use Rattle.order.specs.declared.estimate.Terms.{Terms}
@@ -37,14 +37,18 @@ two-added input h = rw (le-leb (input .form) tms h)
 pub three-added : (input : Row) → tms < input .form → 3 ≡ rowsAdded input
 three-added input h = rw (lt-leb (input .form) tms h)
 
+-- the limit of trade numbers and the room come last
+abbrev lastStatus : List Row → Row → ℕ → Status
+lastStatus rs input number =
+    cond (leb number (tradeNumber .high)) (cond (leb (rowsAdded input) (room rs)) Done NoRoom) OverLimit
+
 unfoldable pub judged : List Row → Row → Terms → Estimate → Status
 judged rs input t e =
     cond (is kindFree (t .account)) OrderNoAccount
     (cond (is kindFree (t .security)) OrderNoSecurity
     (cond (e .untaxed) OrderNoTax
     (cond (eqb (t .rate .0) 0) OrderNoRate
-    (cond (eqb (t .charge) 0) OrderNoCharge
-    (cond (leb (t .number .0) (tradeNumber .high)) (cond (leb (rowsAdded input) (room rs)) Done NoRoom) OverLimit)))))
+    (cond (eqb (t .charge) 0) OrderNoCharge (lastStatus rs input (t .number .0))))))
 
 unfoldable pub answerOf : Terms → Estimate → Row
 answerOf t e =
@@ -97,16 +101,25 @@ module _ (rs : List Row) (input : Row) (t : Terms) (e : Estimate) where
         pub no-charge : t .charge ≡ 0 → OrderNoCharge ≡ judged rs input t e
         unfolding judged
         no-charge c =
-            rw (ne-eqb (t .account .kind) kindFree a, ne-eqb (t .security .kind) kindFree s, x,
-            ne-eqb (t .rate .0) 0 r, eq-eqb (t .charge) 0 c)
+            rw (
+              ne-eqb (t .account .kind) kindFree a,
+              ne-eqb (t .security .kind) kindFree s,
+              x,
+              ne-eqb (t .rate .0) 0 r,
+              eq-eqb (t .charge) 0 c,
+            )
 
         module _ (c : t .charge ≡ 0 → ⊥) where
-          passed : judged rs input t e
-              ≡ cond (leb (t .number .0) (tradeNumber .high)) (cond (leb (rowsAdded input) (room rs)) Done NoRoom) OverLimit
+          passed : judged rs input t e ≡ lastStatus rs input (t .number .0)
           unfolding judged
           passed =
-              rw (ne-eqb (t .account .kind) kindFree a, ne-eqb (t .security .kind) kindFree s, x,
-              ne-eqb (t .rate .0) 0 r, ne-eqb (t .charge) 0 c)
+              rw (
+                ne-eqb (t .account .kind) kindFree a,
+                ne-eqb (t .security .kind) kindFree s,
+                x,
+                ne-eqb (t .rate .0) 0 r,
+                ne-eqb (t .charge) 0 c,
+              )
 
           pub no-number : tradeNumber .high < t .number .0 → OverLimit ≡ judged rs input t e
           no-number n = rw (passed, lt-leb (t .number .0) (tradeNumber .high) n)
@@ -165,40 +178,53 @@ module _ (rs : List Row) (input : Row) (v : View) where
       (refused OverLimit rs))
       (how-many (atMarket input) _)
 
+  -- an order that passes the tests of its own
+  abbrev passing : Outcome
+  passing = finish rs input (v .number) (post (posting input v))
+
+  last-is : (passing .status ≡ lastStatus rs input (v .number))
+      × (passing
+      ≡ pick (isDone (lastStatus rs input (v .number))) ordered (refused (lastStatus rs input (v .number)) rs))
+  unfolding finish rowsAfter
+  last-is =
+      go (leb (v .number) (tradeNumber .high)) (leb (rowsAdded input) (room rs)) (rollBack (input .flags)) refl refl refl
+    where
+      go : (g h k : Bool) → leb (v .number) (tradeNumber .high) ≡ g → leb (rowsAdded input) (room rs) ≡ h
+          → rollBack (input .flags) ≡ k
+          → (passing .status ≡ lastStatus rs input (v .number))
+          × (passing
+          ≡ pick (isDone (lastStatus rs input (v .number))) ordered (refused (lastStatus rs input (v .number)) rs))
+      go false h true eg eh ek = rw (last-checks, eg, ek) (refl, refl)
+      go false h false eg eh ek = rw (last-checks, eg, ek) (refl, refl)
+      go true false true eg eh ek = rw (last-checks, eg, eh, ek) (refl, refl)
+      go true false false eg eh ek = rw (last-checks, eg, eh, ek) (refl, refl)
+      go true true true eg eh ek = rw (last-checks, eg, eh, ek) (refl, refl)
+      go true true false eg eh ek = rw (last-checks, eg, eh, ek) (refl, refl)
+
+  early : (s : Status) → isDone s ≡ false
+      → (finish rs input (v .number) (refuse s) .status ≡ s)
+      × (finish rs input (v .number) (refuse s) ≡ pick (isDone s) ordered (refused s rs))
+  unfolding finish
+  early s n = rw n (refl, refl)
+
   decided-is : (decided .status ≡ status) × (decided ≡ pick (isDone status) ordered (refused status rs))
-  unfolding judged answerOf rowsAfter plan checked finish
+  unfolding judged answerOf rowsAfter plan checked
   decided-is =
       go (is kindFree (v .account)) (is kindFree (v .security)) (e .untaxed) (eqb (v .rate) 0) (eqb (v .charge) 0)
-      (leb (v .number) (tradeNumber .high)) (leb (rowsAdded input) (room rs)) (rollBack (input .flags))
-      refl refl refl refl refl refl refl refl
+      refl refl refl refl refl
     where
-      go : (a b c d f g h k : Bool) → is kindFree (v .account) ≡ a → is kindFree (v .security) ≡ b → e .untaxed ≡ c
-          → eqb (v .rate) 0 ≡ d → eqb (v .charge) 0 ≡ f → leb (v .number) (tradeNumber .high) ≡ g
-          → leb (rowsAdded input) (room rs) ≡ h → rollBack (input .flags) ≡ k
+      go : (a b c d f : Bool) → is kindFree (v .account) ≡ a → is kindFree (v .security) ≡ b → e .untaxed ≡ c
+          → eqb (v .rate) 0 ≡ d → eqb (v .charge) 0 ≡ f
           → (decided .status ≡ status) × (decided ≡ pick (isDone status) ordered (refused status rs))
-      go true b c d f g h k ea eb ec ed ef eg eh ek = rw ea (refl, refl)
-      go false true c d f g h k ea eb ec ed ef eg eh ek = rw (ea, eb) (refl, refl)
-      go false false true d f g h k ea eb ec ed ef eg eh ek = rw (ea, eb, ec) (refl, refl)
-      go false false false true f g h k ea eb ec ed ef eg eh ek =
-          rw (ea, eb, ec, some (v .rate) true ed, ed) (refl, refl)
-      go false false false false true g h k ea eb ec ed ef eg eh ek =
-          rw (ea, eb, ec, some (v .rate) false ed, ed, some (v .charge) true ef, ef) (refl, refl)
-      go false false false false false false h true ea eb ec ed ef eg eh ek =
-          rw (ea, eb, ec, some (v .rate) false ed, ed, some (v .charge) false ef, ef, last-checks, eg, ek) (refl, refl)
-      go false false false false false false h false ea eb ec ed ef eg eh ek =
-          rw (ea, eb, ec, some (v .rate) false ed, ed, some (v .charge) false ef, ef, last-checks, eg, ek) (refl, refl)
-      go false false false false false true false true ea eb ec ed ef eg eh ek =
-          rw (ea, eb, ec, some (v .rate) false ed, ed, some (v .charge) false ef, ef, last-checks, eg, eh, ek)
-          (refl, refl)
-      go false false false false false true false false ea eb ec ed ef eg eh ek =
-          rw (ea, eb, ec, some (v .rate) false ed, ed, some (v .charge) false ef, ef, last-checks, eg, eh, ek)
-          (refl, refl)
-      go false false false false false true true true ea eb ec ed ef eg eh ek =
-          rw (ea, eb, ec, some (v .rate) false ed, ed, some (v .charge) false ef, ef, last-checks, eg, eh, ek)
-          (refl, refl)
-      go false false false false false true true false ea eb ec ed ef eg eh ek =
-          rw (ea, eb, ec, some (v .rate) false ed, ed, some (v .charge) false ef, ef, last-checks, eg, eh, ek)
-          (refl, refl)
+      go true b c d f ea eb ec ed ef = rw ea (early OrderNoAccount refl)
+      go false true c d f ea eb ec ed ef = rw (ea, eb) (early OrderNoSecurity refl)
+      go false false true d f ea eb ec ed ef = rw (ea, eb, ec) (early OrderNoTax refl)
+      go false false false true f ea eb ec ed ef =
+          rw (ea, eb, ec, some (v .rate) true ed, ed) (early OrderNoRate refl)
+      go false false false false true ea eb ec ed ef =
+          rw (ea, eb, ec, some (v .rate) false ed, ed, some (v .charge) true ef, ef) (early OrderNoCharge refl)
+      go false false false false false ea eb ec ed ef =
+          rw (ea, eb, ec, some (v .rate) false ed, ed, some (v .charge) false ef, ef) last-is
 
 module _ (rs : List Row) (input : Row) where
   -- the status of an order, from the book at entry

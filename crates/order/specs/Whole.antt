@@ -48,7 +48,7 @@ module _ (b a : List ℕ) (input : Row) {t : Terms} {e : Estimate} {s : Status} 
         status ∙ sym (judged-status (rows b) input),
         sym (bytes-rows mostRecords b′ whole z) ∙ ap bytes after ∙ sym (ap (λ (q : Outcome). bookLeft q b) o ∙ left .0),
         h ∙ one-record a r k ∙ ap (λ (v : Row). bytes (v ∷ [])) row
-        ∙ sym (ap (λ (q : Outcome). answerLeft q a) o ∙ left .1),
+            ∙ sym (ap (λ (q : Outcome). answerLeft q a) o ∙ left .1),
       )
     where
       done : Outcome

@@ -2,7 +2,6 @@
 // worth, tax and commission.
 ghost use mathlib.Core.Bool.{cond, true};
 ghost use mathlib.Core.Path.{_≡_};
-ghost use Rattle.record.specs.Codes.{tms};
 ghost use Rattle.rules.specs.Rules.{orderInput};
 ghost use Rattle.model.specs.Band.{bandRate};
 ghost use Rattle.model.specs.Names.{aCharge, aSecurity};

@@ -1,13 +1,11 @@
 // Trade-Order, on a book that is known to be sound: it is judged on the book as it is, and then posted.
 ghost use mathlib.Core.Path.{_≡_};
-ghost use mathlib.Core.Bool.{cond, true};
+ghost use mathlib.Core.Bool.{true};
 ghost use lib.ListN.{length};
-ghost use Rattle.laws.specs.Change.{fill};
-ghost use Rattle.record.specs.Signed.{up};
 ghost use Rattle.rules.specs.Rules.{orderInput};
 ghost use Rattle.model.specs.Flags.{rollBack};
 ghost use Rattle.model.specs.Order.{order};
-ghost use Rattle.model.specs.Rows.{mostRecords, nothing, recordSize, rows, sameRow, wholeRecords};
+ghost use Rattle.model.specs.Rows.{mostRecords, recordSize, rows, wholeRecords};
 ghost use Rattle.model.specs.Sound.{sound};
 ghost use Rattle.reply.specs.Left.{answerLeft, bookLeft};
 ghost use Rattle.shelf.specs.Put.{Free};

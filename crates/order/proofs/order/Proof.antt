@@ -21,29 +21,37 @@ estimated-requires c κs =
 
 commit-requires : tie.Need-commit-requires
 commit-requires c κs =
-    free-start _ (sound-s1 _ (c .before .before .before .before .before .before .before .before .before .before .before .pre .1 .1 .0 .0))
+    let estimated = c .before .before .before .before .before in
+    let start = estimated .before .before .before .before .before .before in
+    free-start _ (sound-s1 _ (start .pre .1 .1 .0 .0))
 
 returns : tie.Need-returns
 returns c =
-    let posted = c .before .before .before .before .before .before .before in
+    let put = c .before .before in
+    let known = put .before .before .before in
+    let posted = known .before .before in
     let test = posted .before .before in
     let judged = test .before .before in
-    let start = judged .before .before .before .before .before .before .before .before in
+    let estimated = judged .before .before in
+    let read = estimated .before .before in
+    let start = read .before .before .before .before in
     let same : length (posted .commit .last .0) ≡ length (start .args .book .now) = search needs in
     let done =
-    order-done _ _ (start .args .input) (judged .before .before .before .before .terms-of .ensures) (judged .before .before .estimated .ensures)
+    order-done _ _ (start .args .input) (read .terms-of .ensures) (estimated .estimated .ensures)
     (judged .judge .ensures) (test .before .done .ensures) _ (test .if1 .taken) (posted .commit .ensures)
-    (start .pre .1 .1 .0 .1) same (λ i. c .before .before .before .before .before .slice-known3 .given i .fits) (start .pre .1 .1 .1 .1)
-    (c .before .before .before .answered .ensures) (c .before .before .put .ensures .0)
+    (start .pre .1 .1 .0 .1) same (λ i. known .slice-known3 .given i .fits) (start .pre .1 .1 .1 .1)
+    (put .before .answered .ensures) (put .put .ensures .0)
     in
     (done .0, (done .1, done .2))
 
 returns-2 : tie.Need-returns-2
 returns-2 c =
     let judged = c .before .before in
-    let start = judged .before .before .before .before .before .before .before .before in
+    let estimated = judged .before .before in
+    let read = estimated .before .before in
+    let start = read .before .before .before .before in
     let left =
-    order-refused _ _ (start .args .input) (judged .before .before .before .before .terms-of .ensures) (judged .before .before .estimated .ensures)
+    order-refused _ _ (start .args .input) (read .terms-of .ensures) (estimated .estimated .ensures)
     (judged .judge .ensures) (c .before .done .ensures) (c .if1 .left)
     in
     (left .0, (left .1, left .2))

@@ -18,8 +18,9 @@ tax-requires c κs =
     let pre = c .before .before .before .before .before .pre in
     let good = pre .1 .0 .0 in
     let right = pre .1 .0 .1 in
-    let sold = sold-fits _ _ good right (pre .1 .1) (c .walk .result) (c .before .shares .ensures) (c .walk .ensures .1) in
-    (rates-fit _ _ good right (pre .1 .1), sold)
+    let terms = pre .1 .1 in
+    let count = c .before .shares .ensures in
+    (rates-fit _ _ good right terms, sold-fits _ _ good right terms (c .walk .result) count (c .walk .ensures .1))
 
 untaxed-requires : tie.Need-untaxed-requires
 untaxed-requires c κs =
@@ -27,8 +28,9 @@ untaxed-requires c κs =
     let pre = w .before .before .before .before .before .pre in
     let good = pre .1 .0 .0 in
     let right = pre .1 .0 .1 in
-    let sold = sold-fits _ _ good right (pre .1 .1) (w .walk .result) (w .before .shares .ensures) (w .walk .ensures .1) in
-    (rates-fit _ _ good right (pre .1 .1), sold)
+    let terms = pre .1 .1 in
+    let count = w .before .shares .ensures in
+    (rates-fit _ _ good right terms, sold-fits _ _ good right terms (w .walk .result) count (w .walk .ensures .1))
 
 commission-requires : tie.Need-commission-requires
 commission-requires c κs =
@@ -41,11 +43,12 @@ commission-requires c κs =
 
 returns : tie.Need-returns
 returns c =
-    let w = c .before .before .before in
-    let pre = w .before .before .before .before .before .pre in
-    estimate-is _ _ (pre .1 .0 .0) (pre .1 .0 .1) (pre .1 .1) (w .before .before .before .price-used .ensures)
-    (w .before .shares .ensures) (w .walk .ensures .0) (c .before .before .tax .ensures .0) (c .before .untaxed .ensures)
-    (c .commission .ensures .0)
+    let taxed = c .before .before in
+    let w = taxed .before in
+    let price = w .before .before .before in
+    let pre = price .before .before .pre in
+    estimate-is _ _ (pre .1 .0 .0) (pre .1 .0 .1) (pre .1 .1) (price .price-used .ensures) (w .before .shares .ensures)
+    (w .walk .ensures .0) (taxed .tax .ensures .0) (c .before .untaxed .ensures) (c .commission .ensures .0)
 
 pub estimated-spec : {M : Type 1} → statement M
 estimated-spec =

@@ -1,6 +1,5 @@
 -- By cases on the type. Assumes nothing.
 use Rattle.order.specs.Estimate.{price-bid, price-last}
-use borrow.Author.Needs.{needs}
 use Rattle.order.proofs.estimate.price_used.Statement.{statement}
 use Rattle.order.proofs.estimate.price_used.Tie as tie
 

@@ -1,6 +1,5 @@
 -- By cases on the type. Assumes nothing.
 use Rattle.order.specs.Judge.{three-added, two-added}
-use borrow.Author.Needs.{needs}
 use Rattle.order.proofs.judge.rows_added.Statement.{statement}
 use Rattle.order.proofs.judge.rows_added.Tie as tie
 
