@@ -53,7 +53,7 @@ view rs input =
     }
 
 -- "types 1 and 2, which use the last price"; they get status 2, others 1
-abbrev atMarket : Row → Bool
+abbrev pub atMarket : Row → Bool
 atMarket input = leb (input .form) tms
 
 abbrev pub priceUsed : Row → View → ℕ
@@ -62,10 +62,10 @@ priceUsed input v = cond (atMarket input) (v .security .n1) (input .n2)
 abbrev pub firstStatus : Row → ℕ
 firstStatus input = cond (atMarket input) submitted pending
 
-abbrev walked : Row → View → Walk
+abbrev pub walked : Row → View → Walk
 walked input v = walk (input .form) (priceUsed input v) (input .n1) (v .lots)
 
-abbrev taxed : Row → View → ℕ
+abbrev pub taxed : Row → View → ℕ
 taxed input v = taxOf (v .account .form) (v .rates) (walked input v .bought) (walked input v .sold)
 
 -- "It adds a trade .., with n2 the price used, the charge, the estimated commission and tax zero"

@@ -1,1 +1,5 @@
+pub mod Bounds
+pub mod Estimate
+pub mod Judge
 pub mod Post
+pub mod Whole
