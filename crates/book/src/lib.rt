@@ -7,7 +7,8 @@ ghost use lib.ListN.{length};
 ghost use Rattle.model.specs.Call.{Promise, feedCall, isDone, lookupCall};
 ghost use Rattle.model.specs.Rows.{mostRecords, wholeRecords};
 ghost use Rattle.reply.specs.Left.{answerLeft, bookLeft};
-ghost use Rattle.book.specs.Shell.{Empty, Opened, feedDecided, feedLengths, lookupDecided, lookupLengths, opening};
+ghost use Rattle.book.specs.Shell.{Empty, Opened, feedDecided, feedLengths, lookupDecided, lookupLengths};
+ghost use Rattle.book.specs.Shell.{oneLengths, opening};
 use feed::feed;
 use inputs::all_feed;
 use inputs::all_lookup;
@@ -135,4 +136,10 @@ pub extern "C" fn book_feed(book: &mut [u8], input: &[u8], answer: &mut [u8]) ->
         return finish(answer, s);
     }
     code(Status::BadLength)
+}
+
+fn one_lengths(input: usize, answer: usize) -> bool
+    ensures { λ r. ⌜ r ≡ oneLengths input answer ⌝ }
+{
+    (input == Grid::SIZE) & (answer == Grid::SIZE)
 }
