@@ -12,11 +12,13 @@ use borrow.Author.Tests.{eqb-true, leb-true}
 use Rattle.laws.specs.Search.{every}
 use Rattle.laws.specs.Tests.{and-left, and-right}
 use Rattle.record.specs.Bytes.{Bytes}
+use Rattle.record.specs.Grid.{decode}
 use Rattle.record.specs.declared.row.Row.{Row}
-use Rattle.rules.specs.Rules.{feedInput, lookupInput}
+use Rattle.rules.specs.Rules.{feedInput, lookupInput, orderInput}
 use Rattle.model.specs.Call.{Promise, Reply, isDone, lookupCall, mostInputs, replied, shell}
 use Rattle.model.specs.Feed.{feed}
 use Rattle.model.specs.Lookup.{lookup}
+use Rattle.model.specs.Order.{order}
 use Rattle.model.specs.Plan.{Outcome, pick, refused}
 use Rattle.model.specs.Rows.{mostRecords, recordSize, rows, wholeRecords}
 use Rattle.model.specs.Sound.{sound}
@@ -135,6 +137,10 @@ module _ (inputs : Bool) (decide : List Row → Outcome) (b : List ℕ) where
       go true false i e = refl
       go false t i e = refl
 
+pub good-input : (inputs : Bool) (b : List ℕ) {s : Status} {x y : Bool} → s ≡ opening y b → y ≡ inputs → x ≡ isDone s
+    → x ≡ true → inputs ≡ true
+good-input inputs b p i q r = goes-on inputs (refused BadInput) b p i q r .1
+
 -- what a call decided is what the shell decides
 pub left-decided : {o p : Outcome} {s : Status} {b′ a′ : List ℕ} (b a : List ℕ) → o ≡ p → s ≡ p .status
     → b′ ≡ bookLeft p b
@@ -211,3 +217,18 @@ feed-long n m e = (
 pub feed-lengths : (n m : ℕ) {x : Bool} → x ≡ wholeRecords mostInputs n → (x && eqb m recordSize) ≡ feedLengths n m
 unfolding feedLengths
 feed-lengths n m h = rw h
+
+-- ---- a call of one record
+unfoldable pub oneLengths : ℕ → ℕ → Bool
+oneLengths input answer = eqb input recordSize && eqb answer recordSize
+
+pub one-long : (n m : ℕ) → oneLengths n m ≡ true → (n ≡ recordSize) × (m ≡ recordSize)
+unfolding oneLengths
+one-long n m e = (
+  eqb-true n recordSize (and-left (eqb n recordSize) (eqb m recordSize) e),
+  eqb-true m recordSize (and-right (eqb n recordSize) (eqb m recordSize) e),
+)
+
+-- ---- order
+abbrev pub orderDecided : List ℕ → List ℕ → Outcome
+orderDecided b input = decided (orderInput (decode input)) (λ rs. order rs (decode input)) b

@@ -4,17 +4,20 @@ ghost use mathlib.Core.Path.{_≡_};
 ghost use mathlib.Core.Bool.{true};
 ghost use Prim.Native.Nat.{_/_, _<_};
 ghost use lib.ListN.{length};
-ghost use Rattle.model.specs.Call.{Promise, feedCall, isDone, lookupCall};
+ghost use Rattle.model.specs.Call.{Promise, feedCall, isDone, lookupCall, orderCall};
 ghost use Rattle.model.specs.Rows.{mostRecords, wholeRecords};
 ghost use Rattle.reply.specs.Left.{answerLeft, bookLeft};
 ghost use Rattle.book.specs.Shell.{Empty, Opened, feedDecided, feedLengths, lookupDecided};
-ghost use Rattle.book.specs.Shell.{lookupLengths, opening};
+ghost use Rattle.book.specs.Shell.{lookupLengths, oneLengths, opening, orderDecided};
 use feed::feed;
 use inputs::all_feed;
 use inputs::all_lookup;
+use inputs::is_order;
 use lookup::lookup;
 use model::Status;
+use order::order;
 use record::row::Grid;
+use record::row::Row;
 use reply::code;
 use reply::done;
 use reply::finish;
@@ -135,6 +138,45 @@ pub extern "C" fn book_feed(book: &mut [u8], input: &[u8], answer: &mut [u8]) ->
 {
     if feed_lengths(input.len(), answer.len()) {
         let s = feed_on(book, input, answer);
+        return finish(answer, s);
+    }
+    code(Status::BadLength)
+}
+
+fn one_lengths(input: usize, answer: usize) -> bool
+    ensures { λ r. ⌜ r ≡ oneLengths input answer ⌝ }
+{
+    (input == Grid::SIZE) & (answer == Grid::SIZE)
+}
+
+fn order_on(book: &mut [u8], input: &[u8], answer: &mut [u8]) -> Status
+    requires { ⌜ oneLengths (length (now input)) (length (now answer)) ≡ true ⌝ }
+    ensures { λ r. ⌜ r ≡ orderDecided (now (book .entry)) (now (input .entry)) .status ⌝ }
+    ensures { λ _.
+        ⌜ now (book .exit) ≡ bookLeft (orderDecided (now (book .entry)) (now (input .entry))) (now (book .entry)) ⌝ }
+    ensures { λ _.
+        ⌜ now (answer .exit)
+        ≡ answerLeft (orderDecided (now (book .entry)) (now (input .entry))) (now (answer .entry)) ⌝ }
+{
+    let none = records(book);
+    let mut keys = [none; Slots::ALL];
+    let mut steady = [none; Slots::ALL];
+    let s = opened(book, is_order(input), &mut keys, &mut steady);
+    if done(s) {
+        return order(book, &keys, &steady, Row::read(input), answer);
+    }
+    s
+}
+
+// Trade-Order.
+#[no_mangle]
+pub extern "C" fn book_order(book: &mut [u8], input: &[u8], answer: &mut [u8]) -> i32
+    ensures { λ r.
+        ⌜ Promise (orderCall (now (book .entry)) (now (input .entry)) (now (answer .entry))) r (now (book .exit))
+        (now (answer .exit)) ⌝ }
+{
+    if one_lengths(input.len(), answer.len()) {
+        let s = order_on(book, input, answer);
         return finish(answer, s);
     }
     code(Status::BadLength)

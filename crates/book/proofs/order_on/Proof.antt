@@ -1,0 +1,82 @@
+-- Where the shell finds no fault the order decides; else nothing is written. Assumes nothing.
+use mathlib.Core.Path.{sym, _∙_}
+use Rattle.book.specs.Shell.{empty, goes-on, good-input, left-decided, left-refused, one-long, stops}
+use borrow.Author.Needs.{needs}
+use Rattle.book.proofs.order_on.Statement.{statement}
+use Rattle.book.proofs.order_on.Tie as tie
+
+is-order-requires : tie.Need-is-order-requires
+is-order-requires c κs = one-long _ _ (c .before .before .before .before .before .before .pre) .0
+
+opened-requires : tie.Need-opened-requires
+opened-requires c κs = empty _ _ (c .before .before .before .before .records .ensures)
+
+read-requires : tie.Need-read-requires
+read-requires c κs =
+    let start = c .before .before .before .before .before .before .before .before .before .before .before .before
+    .before .before .before in
+    one-long _ _ (start .pre) .0
+
+order-requires : tie.Need-order-requires
+order-requires c κs =
+    let read = c .before in
+    let test = read .before .before .before .before in
+    let opened = test .before .before in
+    let is-order = opened .before .before .before in
+    let start = is-order .before .before .before .before .before .before .before in
+    let tables = opened .opened .ensures .1 (sym (test .before .done .ensures) ∙ test .if1 .taken) in
+    let good =
+    good-input _ _ (opened .opened .ensures .0) (is-order .is-order .ensures) (test .before .done .ensures)
+    (test .if1 .taken)
+    in
+    let long = one-long _ _ (start .pre) .1 in
+    (tables .by-key, (tables .steadily, ((tables .is-sound, tables .is-whole), (rw (read .read .ensures) good, long))))
+
+returns : tie.Need-returns
+returns c =
+    let order = c .before .before .before .before in
+    let read = order .before .before in
+    let test = read .before .before .before .before in
+    let opened = test .before .before in
+    let is-order = opened .before .before .before in
+    let start = is-order .before .before .before .before .before .before .before in
+    let done = order .order in
+    let row = read .read .ensures in
+    let o =
+    goes-on _ _ _ (opened .opened .ensures .0) (is-order .is-order .ensures) (test .before .done .ensures)
+    (test .if1 .taken)
+    in
+    let left =
+    left-decided (start .args .book .now) (start .args .answer .now) (o .0) (rw row at (done .ensures .0))
+    (rw row at (done .ensures .1 .0)) (rw row at (done .ensures .1 .1))
+    in
+    (left .0, (left .1, left .2))
+
+returns-2 : tie.Need-returns-2
+returns-2 c =
+    let done = c .before in
+    let opened = done .before in
+    let is-order = opened .before .before .before in
+    let start = is-order .before .before .before .before .before .before .before in
+    let o =
+    stops _ _ _ (opened .opened .ensures .0) (is-order .is-order .ensures) (done .done .ensures) (c .if1 .left)
+    in
+    let left = left-refused (start .args .book .now) (start .args .answer .now) o (done .done .ensures) (c .if1 .left)
+    in
+    (left .0, (left .1, left .2))
+
+pub order-on-spec : {M : Type 1} → statement M
+order-on-spec =
+    tie.close
+    (tie.spec
+    (λ c κs. search needs)
+    is-order-requires
+    opened-requires
+    (λ c κs. search needs)
+    read-requires
+    order-requires
+    (λ c. search needs)
+    (λ c. search needs)
+    returns
+    (λ c. search needs)
+    returns-2)
