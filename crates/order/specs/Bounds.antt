@@ -40,7 +40,9 @@ the-most p f m rs e each none = go (leb 1 (count p rs)) refl
     go : (t : Bool) → leb 1 (count p rs) ≡ t → f (the p nothing rs) ≤ m
     go true h =
         let inside = ltb-true (place p rs) (length rs) (sym (some-place p rs) ∙ h) in
-        let good : fits (the p nothing rs) ≡ true = rw (the-place p nothing rs) (every-at fits nothing rs (place p rs) e inside) in
+        let good : fits (the p nothing rs) ≡ true =
+        rw (the-place p nothing rs) (every-at fits nothing rs (place p rs) e inside)
+        in
         each (the p nothing rs) good (the-passes p nothing rs h)
     go false h = rw (the-none p nothing rs h) none
 

@@ -164,6 +164,10 @@ module _ (rs : List Row) (input : Row) (v : View) where
   abbrev ordered : Outcome
   ordered = accepted (answerOf t e ∷ []) (rowsAfter rs input t e)
 
+  -- the outcome is that of the status
+  abbrev Gives : Outcome → Status → Type 0
+  Gives o s = (o .status ≡ s) × (o ≡ pick (isDone s) ordered (refused s rs))
+
   last-checks : finished (leb (v .number) (tradeNumber .high)) (posting input v) rs
       ≡ pick (leb (v .number) (tradeNumber .high))
       (pick (leb (rowsAdded input) (room rs)) (accepted (answerOf t e ∷ []) (fill sameRow nothing added rs))
@@ -182,18 +186,15 @@ module _ (rs : List Row) (input : Row) (v : View) where
   abbrev passing : Outcome
   passing = finish rs input (v .number) (post (posting input v))
 
-  last-is : (passing .status ≡ lastStatus rs input (v .number))
-      × (passing
-      ≡ pick (isDone (lastStatus rs input (v .number))) ordered (refused (lastStatus rs input (v .number)) rs))
+  last-is : Gives passing (lastStatus rs input (v .number))
   unfolding finish rowsAfter
   last-is =
-      go (leb (v .number) (tradeNumber .high)) (leb (rowsAdded input) (room rs)) (rollBack (input .flags)) refl refl refl
+      go (leb (v .number) (tradeNumber .high)) (leb (rowsAdded input) (room rs)) (rollBack (input .flags)) refl refl
+      refl
     where
       go : (g h k : Bool) → leb (v .number) (tradeNumber .high) ≡ g → leb (rowsAdded input) (room rs) ≡ h
           → rollBack (input .flags) ≡ k
-          → (passing .status ≡ lastStatus rs input (v .number))
-          × (passing
-          ≡ pick (isDone (lastStatus rs input (v .number))) ordered (refused (lastStatus rs input (v .number)) rs))
+          → Gives passing (lastStatus rs input (v .number))
       go false h true eg eh ek = rw (last-checks, eg, ek) (refl, refl)
       go false h false eg eh ek = rw (last-checks, eg, ek) (refl, refl)
       go true false true eg eh ek = rw (last-checks, eg, eh, ek) (refl, refl)
@@ -201,21 +202,18 @@ module _ (rs : List Row) (input : Row) (v : View) where
       go true true true eg eh ek = rw (last-checks, eg, eh, ek) (refl, refl)
       go true true false eg eh ek = rw (last-checks, eg, eh, ek) (refl, refl)
 
-  early : (s : Status) → isDone s ≡ false
-      → (finish rs input (v .number) (refuse s) .status ≡ s)
-      × (finish rs input (v .number) (refuse s) ≡ pick (isDone s) ordered (refused s rs))
+  early : (s : Status) → isDone s ≡ false → Gives (finish rs input (v .number) (refuse s)) s
   unfolding finish
   early s n = rw n (refl, refl)
 
-  decided-is : (decided .status ≡ status) × (decided ≡ pick (isDone status) ordered (refused status rs))
+  decided-is : Gives decided status
   unfolding judged answerOf rowsAfter plan checked
   decided-is =
       go (is kindFree (v .account)) (is kindFree (v .security)) (e .untaxed) (eqb (v .rate) 0) (eqb (v .charge) 0)
       refl refl refl refl refl
     where
       go : (a b c d f : Bool) → is kindFree (v .account) ≡ a → is kindFree (v .security) ≡ b → e .untaxed ≡ c
-          → eqb (v .rate) 0 ≡ d → eqb (v .charge) 0 ≡ f
-          → (decided .status ≡ status) × (decided ≡ pick (isDone status) ordered (refused status rs))
+          → eqb (v .rate) 0 ≡ d → eqb (v .charge) 0 ≡ f → Gives decided status
       go true b c d f ea eb ec ed ef = rw ea (early OrderNoAccount refl)
       go false true c d f ea eb ec ed ef = rw (ea, eb) (early OrderNoSecurity refl)
       go false false true d f ea eb ec ed ef = rw (ea, eb, ec) (early OrderNoTax refl)
