@@ -39,8 +39,8 @@ ended : (t : Bool) (x a r : List ℕ) → either t (either t x a) r ≡ either t
 ended true x a r = refl
 ended false x a r = refl
 
-pub promised : (o : Outcome) (b a : List ℕ) {b′ a′ a″ : List ℕ} {s : Status} {z : ℤ} → s ≡ o .status → b′ ≡ bookLeft o b
-    → a′ ≡ answerLeft o a → length a′ ≡ length a → z ≡ number s
+pub promised : (o : Outcome) (b a : List ℕ) {b′ a′ a″ : List ℕ} {s : Status} {z : ℤ} → s ≡ o .status
+    → b′ ≡ bookLeft o b → a′ ≡ answerLeft o a → length a′ ≡ length a → z ≡ number s
     → a″ ≡ either (isDone s) a′ (refusalArea (length a′) s) → Promise (replied o b a) z b′ a″
 unfolding replied bookLeft answerLeft
 promised o b a e f g l r h = record {
