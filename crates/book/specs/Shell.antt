@@ -147,13 +147,6 @@ pub left-decided : {o p : Outcome} {s : Status} {b′ a′ : List ℕ} (b a : Li
     → a′ ≡ answerLeft p a → (s ≡ o .status) × (b′ ≡ bookLeft o b) × (a′ ≡ answerLeft o a)
 left-decided b a e f g h = rw e (f, g, h)
 
--- a refusal by the shell leaves the areas
-pub left-refused : {o : Outcome} {s : Status} {x : Bool} (b a : List ℕ) → o ≡ refused s (rows b) → x ≡ isDone s
-    → x ≡ false
-    → (s ≡ o .status) × (b ≡ bookLeft o b) × (a ≡ answerLeft o a)
-unfolding bookLeft answerLeft
-left-refused b a e q r = rw (e, sym q ∙ r) (refl, refl, refl)
-
 -- ---- the lengths
 pub called : {lengths : Bool} (inputs : Bool) (decide : List Row → Outcome) (b a : List ℕ) → lengths ≡ true
     → shell lengths inputs decide b a ≡ replied (decided inputs decide b) b a

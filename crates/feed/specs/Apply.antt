@@ -22,7 +22,6 @@ use Rattle.model.specs.Edit.{_≔_, changed, new}
 use Rattle.model.specs.Feed.{Fed, applied, lower, reached, submits, traded, triggered}
 use Rattle.model.specs.Names.{aSecurity, aTrade}
 use Rattle.model.specs.Sound.{sound}
-use Rattle.model.specs.SoundMeans.{means-s1, means-sound}
 use Rattle.model.specs.Rows.{found, hasKey, is, nothing, rows, sameRow, there}
 use Rattle.queue.specs.Gather.{Gathering, gather-end}
 use Rattle.queue.specs.Queue.{Mark, markAt, ordered, queued, queued-last, sooner}
@@ -30,6 +29,7 @@ use Rattle.shelf.specs.Put.{Free, found-has, found-none, found-other, free-add,
 use Rattle.shelf.specs.Put.{there-alike, there-other}
 use Rattle.shelf.specs.Rows.{after, freeFrom, length-rows, rowAt}
 use Rattle.tables.specs.Bucket.{steady-none, steady-security, steady-trade, steadyBucket}
+use Rattle.tables.specs.Found.{sound-s1}
 use Rattle.tables.specs.Names.{by-id, by-symbol}
 use Rattle.tables.specs.Table.{Indexed, key-row, table-put}
 use Rattle.feed.specs.Hits.{hits}
@@ -57,7 +57,7 @@ module _ {b steady : List ℕ} {from : ℕ} (s : Ready b steady from) where
 pub ready-start : (b steady : List ℕ) → Indexed steadyBucket b steady 0 → sound (rows b) ≡ true → Ready b steady 0
 ready-start b steady i e = record {
   indexed = i;
-  free = free-start b (means-s1 (rows b) .holds (means-sound (rows b) .shows e .s1));
+  free = free-start b (sound-s1 (rows b) e);
 }
 
 -- ---- an entry's security

@@ -4,28 +4,26 @@
 use mathlib.Core.Path.{_≡_, refl, sym, ap, subst, _∙_}
 use mathlib.Core.Bool.{Bool, true, false, cond, not, _&&_, _||_, false≢true}
 use mathlib.Core.List.{List, [], _∷_, map, List·Memᴰ, List·Memᴰ·head}
-use mathlib.Core.Logic.{⊎-elim}
-use Prim.Native.Nat.{ℕ, _+_, _≤_}
+use Prim.Native.Nat.{ℕ, _+_}
 use native.Mathlib.Nat.{add-zero, zero-add}
 use native.Mathlib.Omega.{arith}
 use lib.Dec.{eqb}
 use lib.ListN.{length}
 use borrow.Author.Tests.{eq-eqb, eqb-true, eqb-false, le-leb}
 use Rattle.laws.specs.Change.{put}
-use Rattle.laws.specs.Keep.{count-has, count-keep, count-none, count-on, count-one, count-split, every-keep}
+use Rattle.laws.specs.Keep.{count-has, count-keep, count-none, count-on, count-split, every-keep}
 use Rattle.laws.specs.Keep.{keep-from, keep-has, keep-keep, map-on, the-has}
 use Rattle.laws.specs.Search.{bit, length-keep, count, every, keep, means-every, run}
 use Rattle.laws.specs.Sort.{every-sort, length-sort, sort}
-use Rattle.laws.specs.Tests.{and-both, and-false, and-left, and-right, one-truth, or-assoc, or-false, or-true}
+use Rattle.laws.specs.Tests.{and-false, and-left, and-right, one-truth, or-assoc, or-false, or-true}
 use Rattle.record.specs.Codes.{kindRequest, kindTrade, pending}
-use Rattle.record.specs.Key.{keyOf}
-use Rattle.record.specs.KeyLaws.{same-keys}
 use Rattle.record.specs.declared.row.Row.{Row}
 use Rattle.model.specs.Feed.{Fed, applied, lower, reached, submits, swept, traded, triggered, waits}
 use Rattle.model.specs.Names.{aRequest, aSecurity, aTrade, named}
 use Rattle.model.specs.Rows.{found, hasKey, is, nothing, sameRow, there}
 use Rattle.model.specs.Sound.{sound}
-use Rattle.model.specs.SoundMeans.{SoundBook, means-sound}
+use Rattle.model.specs.SoundMeans.{SoundBook, means-s2, means-sound}
+use Rattle.tables.specs.Found.{found-again, own-number}
 use Rattle.tables.specs.Names.{by-id}
 use Rattle.feed.specs.Hits.{due, hitBy, hits}
 use Rattle.feed.specs.Pending.{pends, pends-submits, pends-traded}
@@ -180,28 +178,14 @@ all-trades ks one d f (e ∷ es) w =
     parts false false false = refl
 
 -- ---- a sound book: every request waits
-request-key : (i : ℕ) (r : Row) → hasKey (aRequest i) r ≡ (is kindRequest r && eqb (r .id) i)
-request-key i r = by-id kindRequest refl i r
-
-own-number : (i : ℕ) (r : Row) → is kindRequest r ≡ true → r .id ≡ i → hasKey (aRequest i) r ≡ true
-own-number i r k e = request-key i r ∙ and-both (is kindRequest r) (eqb (r .id) i) k (eq-eqb (r .id) i e)
-
 module _ (rs : List Row) (b : SoundBook rs) where
-  one-number : (r : Row) → List·Memᴰ r rs → is kindRequest r ≡ true → count (hasKey (aRequest (r .id))) rs ≤ 1
-  unfolding hasKey
-  one-number r m k =
-      let e : keyOf r ≡ aRequest (r .id) = same-keys (keyOf r) (aRequest (r .id)) (own-number (r .id) r k refl) in
-      ⊎-elim
-      (λ f. absurd (let q = eqb-true (r .kind) kindRequest k in omega arith))
-      (λ c. let z : count (hasKey (aRequest (r .id))) rs ≡ 1 = rw e at c in omega arith)
-      (b .s2 r m)
-
   all-alone : Alone (keep (is kindRequest) rs)
   all-alone r t m n e =
       let x = keep-from (is kindRequest) r rs m in
       let y = keep-from (is kindRequest) t rs n in
-      count-one (hasKey (aRequest (r .id))) r t rs (one-number r (x .0) (x .1)) (x .0) (y .0)
-      (own-number (r .id) r (x .1) refl) (own-number (r .id) t (y .1) (sym e))
+      let unique = means-s2 rs .holds (b .s2) in
+      sym (found-again kindRequest refl rs unique r (x .0) (x .1)) ∙ ap (λ (i : ℕ). found (aRequest i) rs) e
+      ∙ found-again kindRequest refl rs unique t (y .0) (y .1)
 
   has-trade : (r : Row) → List·Memᴰ r rs → is kindRequest r ≡ true → there (aTrade (r .id)) rs ≡ true
   unfolding named there
@@ -227,7 +211,7 @@ module _ (rs : List Row) (b : SoundBook rs) where
           let j = eqb-true (t .kind) kindTrade (and-left (is kindTrade t) (eqb (t .id) (r .id)) key) in
           let n = the-has (hasKey (aTrade (r .id))) nothing rs (has-trade r m k) in
           let none = b .s6 t n j .1 (eqb-false (t .status) pending e) in
-          let one = count-has (hasKey (aRequest (t .id))) r rs m (own-number (t .id) r k (sym i)) in
+          let one = count-has (hasKey (aRequest (t .id))) r rs m (own-number kindRequest refl (t .id) r k (sym i)) in
           absurd (omega arith)
 
   all-wait : Waiting (keep (is kindRequest) rs) (λ r. false) rs

@@ -1,5 +1,5 @@
 -- The whole feed, as the code comes to it. Assumes nothing.
-use mathlib.Core.Path.{_≡_, refl, sym, ap, _∙_}
+use mathlib.Core.Path.{_≡_, sym, ap, _∙_}
 use mathlib.Core.Bool.{Bool, true, false, cond}
 use mathlib.Core.List.{List, [], _∷_, map}
 use Prim.Native.Nat.{ℕ, suc, _/_, _≤_, _<_}
@@ -15,16 +15,15 @@ use Rattle.rules.specs.Ranges.{kind, n1, n2}
 use Rattle.model.specs.Call.{isDone}
 use Rattle.model.specs.Edit.{_≔_, new}
 use Rattle.model.specs.Feed.{applied, feed}
-use Rattle.model.specs.Plan.{Outcome, room}
-use Rattle.model.specs.Rows.{bytes, is, mostRecords, recordSize, rows, wholeRecords}
-use Rattle.model.specs.RowsLaws.{bytes-rows}
+use Rattle.model.specs.Plan.{refused, room}
+use Rattle.model.specs.Rows.{is, mostRecords, recordSize, rows, wholeRecords}
 use Rattle.model.specs.Sound.{sound}
 use Rattle.model.specs.declared.Status.{Status}
-use Rattle.reply.specs.Left.{answerLeft, bookLeft, left-done, one-record}
+use Rattle.reply.specs.Left.{answerLeft, bookLeft, left-accepted, left-refused}
 use Rattle.shelf.specs.Rows.{length-rows, putAt}
 use Rattle.feed.specs.Due.{swept-due, trades-due}
 use Rattle.feed.specs.Hits.{due}
-use Rattle.feed.specs.Judge.{answered, fed, feedStatus, judged-outcome, judged-refused, judged-status}
+use Rattle.feed.specs.Judge.{answered, feedStatus, judged-outcome, judged-refused, judged-status}
 use Rattle.feed.specs.Sweep.{left}
 
 keep-most : {A : Type 0} (p : A → Bool) (l : List A) → length (keep p l) ≤ length l
@@ -44,12 +43,10 @@ module _ (b input a : List ℕ) (good : sound (rows b) ≡ true) {s : Status} {n
   pub fed-refused : x ≡ false
       → (s ≡ feed (rows b) (rows input) .status) × (b ≡ bookLeft (feed (rows b) (rows input)) b)
       × (a ≡ answerLeft (feed (rows b) (rows input)) a)
-  unfolding bookLeft answerLeft
   fed-refused e =
-      let not-done = ap isDone (sym status) ∙ sym d ∙ e in
-      rw
-      (judged-refused (rows b) (rows input) (trades-due (rows b) (rows input) good) not-done, ← status, sym d ∙ e)
-      (refl, refl, refl)
+      let counted = trades-due (rows b) (rows input) good in
+      let o = judged-refused (rows b) (rows input) counted (ap isDone (sym status) ∙ sym d ∙ e) in
+      left-refused b a (o ∙ ap (λ (t : Status). refused t (rows b)) (sym status)) d e
 
   pub fed-done : (b₁ b₂ : List ℕ) {a′ : List ℕ} {r : Row} {m : ℕ} → x ≡ true
       → rows b₁ ≡ run applied (record { rows = rows b; trades = 0 }) (rows input) .rows
@@ -61,21 +58,9 @@ module _ (b input a : List ℕ) (good : sound (rows b) ≡ true) {s : Status} {n
   fed-done b₁ b₂ {a′} {r} {m} e p q w l y k u g h =
       let counted = trades-due (rows b) (rows input) good in
       let o = judged-outcome (rows b) (rows input) counted (ap isDone (sym status) ∙ sym d ∙ e) in
-      let whole : wholeRecords mostRecords (length b₂) ≡ true = rw l w in
       let posted = q ∙ ap (map (left (rows input))) p ∙ sym (swept-due (rows b) (rows input) good) in
-      let row : r ≡ answered (rows b) (rows input) = g ∙ rw (u, ← length-rows input, c) in (
-        status ∙ sym (judged-status (rows b) (rows input) counted),
-        sym (bytes-rows mostRecords b₂ whole y) ∙ ap bytes posted
-            ∙ sym (ap (λ (p : Outcome). bookLeft p b) o ∙ done-book),
-        h ∙ one-record a r k ∙ ap (λ (v : Row). bytes (v ∷ [])) row
-            ∙ sym (ap (λ (p : Outcome). answerLeft p a) o ∙ done-answer),
-      )
-    where
-      done-book : bookLeft (fed (rows b) (rows input)) b ≡ bytes (fed (rows b) (rows input) .rows)
-      done-book = left-done (fed (rows b) (rows input)) b a refl .0
-
-      done-answer : answerLeft (fed (rows b) (rows input)) a ≡ bytes (fed (rows b) (rows input) .answer)
-      done-answer = left-done (fed (rows b) (rows input)) b a refl .1
+      let row : r ≡ answered (rows b) (rows input) = g ∙ rw (u, ← length-rows input, c) in
+      left-accepted b a b₂ o (status ∙ sym (judged-status (rows b) (rows input) counted)) posted w l y k row h
 
 -- an answer's numbers are small
 pub few-trades : (b : List ℕ) (n : ℕ) → length b / 64 ≤ mostRecords → leb n (room (rows b)) ≡ true → n < 4294967296

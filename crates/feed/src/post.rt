@@ -16,7 +16,7 @@ ghost use Rattle.queue.specs.Queue.{queueMost, queued};
 ghost use Rattle.shelf.specs.Rows.{rowAt};
 ghost use Rattle.tables.specs.Bucket.{steadyBucket};
 ghost use Rattle.tables.specs.Table.{Indexed};
-ghost use Rattle.feed.specs.Apply.{Fits, Keeps, Ready, gathered, history, submitMark};
+ghost use Rattle.feed.specs.Apply.{Fits, Keeps, Ready, gathered, submitMark};
 ghost use Rattle.feed.specs.Sweep.{left};
 use crate::judge::due;
 use crate::judge::hits;
@@ -26,6 +26,7 @@ use record::codes::Kind;
 use record::codes::TradeStatus;
 use record::row::Grid;
 use record::row::Row;
+use shelf::history::history;
 use shelf::place::nothing;
 use shelf::place::row_at;
 use shelf::put::add;
@@ -95,18 +96,6 @@ fn gather(
     n
 }
 
-// The history row of a trade that is submitted.
-fn history(time: u32, id: u64) -> Row
-    ensures { λ r. ⌜ r ≡ history time id ⌝ }
-{
-    let mut h = nothing();
-    h.kind = Kind::TRADE_HISTORY;
-    h.status = TradeStatus::SUBMITTED;
-    h.id = id;
-    h.time = time;
-    h
-}
-
 // A trade is submitted. The answer is where the next search for a free place begins.
 fn submit(book: &mut [u8], steady: &[u16; Slots::ALL], time: u32, id: u64, from: usize) -> usize
     requires { ⌜ Ready (now book) (now steady) from ⌝ }
@@ -114,7 +103,7 @@ fn submit(book: &mut [u8], steady: &[u16; Slots::ALL], time: u32, id: u64, from:
     ensures { λ _. ⌜ rows (now (book .exit)) ≡ submitMark (rows (now (book .entry))) (time, id) ⌝ }
     ensures { λ r. ⌜ Ready (now (book .exit)) (now (steady .entry)) r ⌝ }
 {
-    let next = add(book, from, history(time, id));
+    let next = add(book, from, history(TradeStatus::SUBMITTED, id, time));
     let at = trade_at(book, steady, id);
     let mut t = row_at(book, at);
     t.status = TradeStatus::SUBMITTED;

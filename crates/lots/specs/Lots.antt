@@ -1,36 +1,32 @@
 -- The lots that a trade closes, as marks in a queue: their order is that of their marks, and in a book that keeps S2
 -- the number of a mark finds its lot again; and what the loop over the numbers keeps. Assumes nothing.
 use mathlib.Core.Path.{_≡_, refl, sym, ap, ap₂, subst, _∙_}
-use mathlib.Core.Bool.{Bool, true, false, _&&_}
+use mathlib.Core.Bool.{Bool, true, _&&_}
 use mathlib.Core.List.{List, [], _∷_, map, List·Memᴰ}
-use mathlib.Core.Logic.{⊎-elim}
 use Prim.Native.Nat.{ℕ, zero, suc, _-_, _*_, _≤_, _<_}
 use native.Mathlib.Nat.{mul-le-mul-right}
 use native.Mathlib.Omega.{arith}
-use lib.Dec.{eqb, leb}
-use lib.ListN.{length, getD}
-use borrow.Author.Tests.{eq-eqb, eqb-true, le-leb, ltb-true}
-use Rattle.laws.specs.Keep.{count-has, count-one, keep-from, map-on, the-has}
-use Rattle.laws.specs.Place.{every-at, some-place, the-none, the-passes, the-place}
-use Rattle.laws.specs.Search.{count, keep, place, run, the}
+use lib.Dec.{eqb}
+use lib.ListN.{getD}
+use borrow.Author.Tests.{eqb-true}
+use Rattle.laws.specs.Keep.{keep-from, map-on}
+use Rattle.laws.specs.Search.{keep, run}
 use Rattle.laws.specs.Sort.{sort, sort-map, sort-map-of}
-use Rattle.laws.specs.Tests.{_⇔_, and-both, and-left}
+use Rattle.laws.specs.Tests.{_⇔_, and-left}
 use Rattle.record.specs.Codes.{kindLot}
-use Rattle.record.specs.Key.{keyOf}
-use Rattle.record.specs.KeyLaws.{same-keys}
 use Rattle.record.specs.declared.row.Row.{Row}
 use Rattle.rules.specs.Meaning.{means-lot}
 use Rattle.rules.specs.Ranges.{priceMost, sharesMost}
-use Rattle.rules.specs.Rules.{as-kind, fits}
+use Rattle.rules.specs.Rules.{as-kind}
 use Rattle.model.specs.Flags.{lifo}
 use Rattle.model.specs.Lots.{before, closes, lotsFor, start, step, walk}
 use Rattle.model.specs.Lots
 use Rattle.model.specs.Money.{buys}
 use Rattle.model.specs.Names.{aLot}
-use Rattle.model.specs.Rows.{found, hasKey, is, nothing}
+use Rattle.model.specs.Rows.{found, hasKey, is}
 use Rattle.model.specs.Sound.{lotOf, s1, s2, short}
-use Rattle.model.specs.SoundMeans.{means-s2}
 use Rattle.queue.specs.Queue.{Mark, ordered, queueMost, queued, sooner}
+use Rattle.tables.specs.Found.{found-again, the-most}
 use Rattle.tables.specs.Names.{by-id}
 use Rattle.lots.specs.declared.walk.Walk.{Walk}
 use Rattle.lots.specs.Walk.{Within, made, seen, step-within, valueMost}
@@ -50,30 +46,6 @@ unfolding lotsFor
 marks-of rs form flags account symbol e =
     rw e (sym (sort-map mark (before (lifo flags)) (ordered (lifo flags)) (same-order (lifo flags))
     (keep (closes form account symbol) rs)))
-
--- ---- the lot of a number
-own-number : (i : ℕ) (r : Row) → is kindLot r ≡ true → r .id ≡ i → hasKey (aLot i) r ≡ true
-own-number i r k e =
-    by-id kindLot refl i r ∙ and-both (is kindLot r) (eqb (r .id) i) k (eq-eqb (r .id) i e)
-
-module _ (rs : List Row) (unique : s2 rs ≡ true) where
-  one-number : (r : Row) → List·Memᴰ r rs → is kindLot r ≡ true → count (hasKey (aLot (r .id))) rs ≤ 1
-  unfolding hasKey
-  one-number r m k =
-      let e : keyOf r ≡ aLot (r .id) = same-keys (keyOf r) (aLot (r .id)) (own-number (r .id) r k refl) in
-      ⊎-elim
-      (λ f. absurd (let q = eqb-true (r .kind) kindLot k in omega arith))
-      (λ c. let z : count (hasKey (aLot (r .id))) rs ≡ 1 = rw e at c in omega arith)
-      (means-s2 rs .shows unique r m)
-
-  found-again : (r : Row) → List·Memᴰ r rs → is kindLot r ≡ true → found (aLot (r .id)) rs ≡ r
-  unfolding found
-  found-again r m k =
-      let p = hasKey (aLot (r .id)) in
-      let own = own-number (r .id) r k refl in
-      let some = le-leb 1 (count p rs) (count-has p r rs m own) in
-      count-one p (the p nothing rs) r rs (one-number r m k) (the-has p nothing rs some) m
-      (the-passes p nothing rs some) own
 
 -- ---- the lots of the numbers
 unfoldable pub lotsAt : List Row → List ℕ → ℕ → List Row
@@ -112,7 +84,7 @@ module _ (rs : List Row) (unique : s2 rs ≡ true) (form flags account symbol : 
   a-lot l m =
       let k = keep-from (closes form account symbol) l rs m in
       let held = and-left (lotOf account symbol l) (buys form ⇔ short l) (k .1) in
-      found-again rs unique l (k .0) (and-left (is kindLot l) (eqb (l .party) account)
+      found-again kindLot refl rs unique l (k .0) (and-left (is kindLot l) (eqb (l .party) account)
       (and-left (is kindLot l && eqb (l .party) account) (eqb (l .symbol) symbol) held))
 
   -- each lot is found by its number
@@ -127,23 +99,15 @@ module _ (rs : List Row) (unique : s2 rs ≡ true) (form flags account symbol : 
 
 -- the price of a lot is in its range, and so is that of none
 pub lot-price : (rs : List Row) (i : ℕ) {r : Row} → s1 rs ≡ true → r ≡ found (aLot i) rs → r .n1 ≤ priceMost
-unfolding s1 found
-lot-price rs i {r} e q = go (leb 1 (count p rs)) refl
-  where
-    p : Row → Bool
-    p = hasKey (aLot i)
-
-    go : (t : Bool) → leb 1 (count p rs) ≡ t → r .n1 ≤ priceMost
-    go true h =
-        let inside = ltb-true (place p rs) (length rs) (sym (some-place p rs) ∙ h) in
-        let z : r ≡ getD rs (place p rs) nothing = q ∙ the-place p nothing rs in
-        let f : fits r ≡ true = rw z (every-at fits nothing rs (place p rs) e inside) in
-        let own : (is kindLot r && eqb (r .id) i) ≡ true =
-        sym (by-id kindLot refl i r) ∙ rw q (the-passes p nothing rs h)
-        in
-        let k = eqb-true (r .kind) kindLot (and-left (is kindLot r) (eqb (r .id) i) own) in
-        means-lot r .shows (as-kind kindLot r k ∙ f) .0 .0 .0 .2 .2 .2 .2 .2 .2 .2 .1
-    go false h = let z : r ≡ nothing = q ∙ the-none p nothing rs h in rw z (omega arith)
+unfolding found
+lot-price rs i e q =
+    rw q
+    (the-most (hasKey (aLot i)) (λ (r : Row). r .n1) priceMost rs e
+    (λ r f h.
+    let own = and-left (is kindLot r) (eqb (r .id) i) (sym (by-id kindLot refl i r) ∙ h) in
+    let k = eqb-true (r .kind) kindLot own in
+    means-lot r .shows (as-kind kindLot r k ∙ f) .0 .0 .0 .2 .2 .2 .2 .2 .2 .2 .1)
+    (omega arith))
 
 -- ---- a walk over the lots of the first n numbers has come to w, from the lots of all n₀ and w₀
 pub record Walking (form price : ℕ) (rs : List Row) (ids : List ℕ) (n₀ : ℕ) (w₀ : Walk) (n : ℕ) (w : Walk)

@@ -5,11 +5,9 @@ use mathlib.Core.List.{List, [], _∷_, List·Memᴰ, List·Memᴰ·head, List·
 use Prim.Native.Nat.{ℕ, _≤_}
 use native.Mathlib.Omega.{arith}
 use lib.Dec.{eqb, leb}
-use lib.ListN.{length}
-use borrow.Author.Tests.{eqb-true, le-leb, ltb-true}
+use borrow.Author.Tests.{eqb-true, le-leb}
 use Rattle.laws.specs.Keep.{the-has}
-use Rattle.laws.specs.Place.{every-at, some-place, the-none, the-passes, the-place}
-use Rattle.laws.specs.Search.{count, every, largest, place, the, total}
+use Rattle.laws.specs.Search.{count, every, largest, total}
 use Rattle.laws.specs.Tests.{and-left, and-right}
 use Rattle.record.specs.Codes.{kindBand, kindCustomer, kindCustomerRate, kindSecurity, kindTrade}
 use Rattle.record.specs.declared.row.Row.{Row}
@@ -20,31 +18,11 @@ use Rattle.model.specs.Band.{bandFor, bandRate}
 use Rattle.model.specs.Names.{aCustomer, aSecurity, named}
 use Rattle.model.specs.Order.{tradeId}
 use Rattle.model.specs.Rows.{found, hasKey, is, nothing, there}
-use Rattle.model.specs.Sound.{rateOf, ratesOf, s1, s2, sound}
-use Rattle.model.specs.SoundMeans.{means-s1, means-s2, means-sound}
+use Rattle.model.specs.Sound.{rateOf, ratesOf, s1, sound}
+use Rattle.model.specs.SoundMeans.{means-sound}
 use Rattle.shelf.specs.Put.{found-has}
+use Rattle.tables.specs.Found.{the-most}
 use Rattle.tables.specs.Names.{by-party, by-symbol}
-
-pub sound-s1 : (rs : List Row) → sound rs ≡ true → s1 rs ≡ true
-sound-s1 rs e = means-s1 rs .holds (means-sound rs .shows e .s1)
-
-pub sound-s2 : (rs : List Row) → sound rs ≡ true → s2 rs ≡ true
-sound-s2 rs e = means-s2 rs .holds (means-sound rs .shows e .s2)
-
--- ---- a row that is looked for: what every such row that fits is bound by, and nothing too, binds it
-the-most : (p : Row → Bool) (f : Row → ℕ) (m : ℕ) (rs : List Row) → s1 rs ≡ true
-    → ((r : Row) → fits r ≡ true → p r ≡ true → f r ≤ m) → f nothing ≤ m → f (the p nothing rs) ≤ m
-unfolding s1
-the-most p f m rs e each none = go (leb 1 (count p rs)) refl
-  where
-    go : (t : Bool) → leb 1 (count p rs) ≡ t → f (the p nothing rs) ≤ m
-    go true h =
-        let inside = ltb-true (place p rs) (length rs) (sym (some-place p rs) ∙ h) in
-        let good : fits (the p nothing rs) ≡ true =
-        rw (the-place p nothing rs) (every-at fits nothing rs (place p rs) e inside)
-        in
-        each (the p nothing rs) good (the-passes p nothing rs h)
-    go false h = rw (the-none p nothing rs h) none
 
 pub rate-most : (rs : List Row) (form tier exchange shares : ℕ) → s1 rs ≡ true
     → bandRate rs form tier exchange shares ≤ commissionPart .high

@@ -29,7 +29,8 @@ use Rattle.lots.specs.Walk.{Within, made, seen, valueMost}
 use Rattle.lots.specs.declared.walk.Walk.{Walk}
 use Rattle.order.specs.declared.estimate.Estimate.{Estimate}
 use Rattle.order.specs.declared.estimate.Terms.{Terms}
-use Rattle.order.specs.Bounds.{price-most, rate-most, rates-most, sound-s1}
+use Rattle.tables.specs.Found.{sound-s1}
+use Rattle.order.specs.Bounds.{price-most, rate-most, rates-most}
 
 abbrev pub perTenThousand : ℕ → PerTenThousand
 perTenThousand x = record { 0 = x }

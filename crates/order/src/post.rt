@@ -10,6 +10,7 @@ use record::codes::TradeStatus;
 use record::codes::TradeType;
 use record::row::Row;
 use reply::in_symbol;
+use shelf::history::history;
 use shelf::place::nothing;
 use shelf::put::add;
 
@@ -46,12 +47,7 @@ fn trade_row(input: Row, number: u64, price: u32, charge: u32, commission: u64) 
 fn history_row(input: Row, number: u64) -> Row
     ensures { λ r. ⌜ r ≡ historyRow input number ⌝ }
 {
-    let mut h = nothing();
-    h.kind = Kind::TRADE_HISTORY;
-    h.status = first_status(input);
-    h.id = number;
-    h.time = input.time;
-    h
+    history(first_status(input), number, input.time)
 }
 
 fn request_row(input: Row, broker: u32, number: u64, price: u32) -> Row
@@ -107,9 +103,9 @@ pub fn post(
         ≡ fill sameRow nothing (addedRows input broker number price charge commission) (rows (now (book .entry))) ⌝ }
 {
     let trade = trade_row(input, number, price, charge, commission);
-    let history = history_row(input, number);
+    let past = history_row(input, number);
     let next = add(book, 0, trade);
-    let last = add(book, next, history);
+    let last = add(book, next, past);
     if input.form <= TradeType::TMS {
         return;
     }

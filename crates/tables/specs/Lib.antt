@@ -3,3 +3,4 @@ pub mod Names
 pub mod Keyed
 pub mod Table
 pub mod Sums
+pub mod Found

@@ -1,6 +1,7 @@
 -- Where the shell finds no fault the feed decides; else nothing is written. Assumes nothing.
 use mathlib.Core.Path.{sym, _∙_}
-use Rattle.book.specs.Shell.{empty, feed-long, goes-on, left-decided, left-refused, stops}
+use Rattle.reply.specs.Left.{left-refused}
+use Rattle.book.specs.Shell.{empty, feed-long, goes-on, left-decided, stops}
 use borrow.Author.Needs.{needs}
 use Rattle.book.proofs.feed_on.Statement.{statement}
 use Rattle.book.proofs.feed_on.Tie as tie

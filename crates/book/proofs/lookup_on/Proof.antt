@@ -1,7 +1,8 @@
 -- Where the shell finds no fault the lookup decides; else nothing is written. Assumes nothing.
 use mathlib.Core.Path.{refl, sym, _∙_}
 use mathlib.Core.List.{[]}
-use Rattle.book.specs.Shell.{empty, goes-on, left-decided, left-refused, lookup-long, stops}
+use Rattle.reply.specs.Left.{left-refused}
+use Rattle.book.specs.Shell.{empty, goes-on, left-decided, lookup-long, stops}
 use borrow.Author.Needs.{needs}
 use Rattle.book.proofs.lookup_on.Statement.{statement}
 use Rattle.book.proofs.lookup_on.Tie as tie
@@ -40,7 +41,7 @@ returns-2 c =
     let start = all-lookup .before .before .before .before .before in
     let inputs = all-lookup .all-lookup in
     let o = stops _ _ _ (opened .opened .ensures .0) (inputs .ensures) (done .done .ensures) (c .if1 .left) in
-    let left = left-refused _ (start .args .answer .now) o (done .done .ensures) (c .if1 .left) in
+    let left = left-refused [] (start .args .answer .now) o (done .done .ensures) (c .if1 .left) in
     (left .0, left .2)
 
 pub lookup-on-spec : {M : Type 1} → statement M

@@ -1,6 +1,7 @@
 -- Where the shell finds no fault the order decides; else nothing is written. Assumes nothing.
 use mathlib.Core.Path.{sym, _∙_}
-use Rattle.book.specs.Shell.{empty, goes-on, good-input, left-decided, left-refused, one-long, stops}
+use Rattle.reply.specs.Left.{left-refused}
+use Rattle.book.specs.Shell.{empty, goes-on, good-input, left-decided, one-long, stops}
 use borrow.Author.Needs.{needs}
 use Rattle.book.proofs.order_on.Statement.{statement}
 use Rattle.book.proofs.order_on.Tie as tie

@@ -3,7 +3,7 @@
 use mathlib.Core.Path.{_≡_}
 use lib.ListN.{length}
 use Rattle.shelf.specs.Put.{free-start}
-use Rattle.order.specs.Bounds.{sound-s1}
+use Rattle.tables.specs.Found.{sound-s1}
 use Rattle.order.specs.Whole.{order-done, order-refused}
 use borrow.Author.Needs.{needs}
 use Rattle.order.proofs.order.Statement.{statement}

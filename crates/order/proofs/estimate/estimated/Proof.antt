@@ -1,5 +1,5 @@
 -- A sound book and a good input keep all values in their range, and each is the one of the rules. Assumes nothing.
-use Rattle.order.specs.Bounds.{sound-s1, sound-s2}
+use Rattle.tables.specs.Found.{sound-s1, sound-s2}
 use Rattle.order.specs.Estimate.{estimate-is, price-fits, rate-fits, rates-fit, shares-fit, sold-fits}
 use borrow.Author.Needs.{needs}
 use Rattle.order.proofs.estimate.estimated.Statement.{statement}

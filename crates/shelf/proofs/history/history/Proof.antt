@@ -1,7 +1,7 @@
 -- Four fields are set in the row of a free record. Assumes nothing.
 use borrow.Author.Needs.{needs}
-use Rattle.feed.proofs.post.history.Statement.{statement}
-use Rattle.feed.proofs.post.history.Tie as tie
+use Rattle.shelf.proofs.history.history.Statement.{statement}
+use Rattle.shelf.proofs.history.history.Tie as tie
 
 returns : tie.Need-returns
 returns c = rw (c .nothing .ensures)

@@ -1,0 +1,69 @@
+-- What a sound book tells of a row that is looked for: what binds every such row binds it, and by S2 a number finds the
+-- one row of its kind that has it. Assumes nothing.
+use mathlib.Core.Path.{_≡_, refl, sym, _∙_}
+use mathlib.Core.Bool.{Bool, true, false, false≢true}
+use mathlib.Core.List.{List, List·Memᴰ}
+use mathlib.Core.Logic.{⊎-elim}
+use Prim.Native.Nat.{ℕ, _≤_}
+use native.Mathlib.Omega.{arith}
+use lib.Dec.{eqb, leb}
+use lib.ListN.{length}
+use borrow.Author.Tests.{eq-eqb, eqb-true, le-leb, ltb-true}
+use Rattle.laws.specs.Keep.{count-has, count-one, the-has}
+use Rattle.laws.specs.Place.{every-at, some-place, the-none, the-passes, the-place}
+use Rattle.laws.specs.Search.{count, place, the}
+use Rattle.laws.specs.Tests.{and-both}
+use Rattle.record.specs.Codes.{kindFree}
+use Rattle.record.specs.Key.{among, keyOf}
+use Rattle.record.specs.KeyLaws.{same-keys}
+use Rattle.record.specs.declared.row.Row.{Row}
+use Rattle.rules.specs.Rules.{fits}
+use Rattle.model.specs.Names.{byId}
+use Rattle.model.specs.Rows.{found, hasKey, is, nothing}
+use Rattle.model.specs.Sound.{s1, s2, sound}
+use Rattle.model.specs.SoundMeans.{means-s1, means-s2, means-sound}
+use Rattle.tables.specs.Names.{by-id, idKinds}
+
+pub sound-s1 : (rs : List Row) → sound rs ≡ true → s1 rs ≡ true
+sound-s1 rs e = means-s1 rs .holds (means-sound rs .shows e .s1)
+
+pub sound-s2 : (rs : List Row) → sound rs ≡ true → s2 rs ≡ true
+sound-s2 rs e = means-s2 rs .holds (means-sound rs .shows e .s2)
+
+-- ---- a row that is looked for: what every such row that fits is bound by, and nothing too, binds it
+pub the-most : (p : Row → Bool) (f : Row → ℕ) (m : ℕ) (rs : List Row) → s1 rs ≡ true
+    → ((r : Row) → fits r ≡ true → p r ≡ true → f r ≤ m) → f nothing ≤ m → f (the p nothing rs) ≤ m
+unfolding s1
+the-most p f m rs e each none = go (leb 1 (count p rs)) refl
+  where
+    go : (t : Bool) → leb 1 (count p rs) ≡ t → f (the p nothing rs) ≤ m
+    go true h =
+        let inside = ltb-true (place p rs) (length rs) (sym (some-place p rs) ∙ h) in
+        let good : fits (the p nothing rs) ≡ true =
+        rw (the-place p nothing rs) (every-at fits nothing rs (place p rs) e inside)
+        in
+        each (the p nothing rs) good (the-passes p nothing rs h)
+    go false h = rw (the-none p nothing rs h) none
+
+-- ---- the row of a number, of a kind that is known by it
+module _ (k : ℕ) (known : among k idKinds ≡ true) where
+  pub own-number : (i : ℕ) (r : Row) → is k r ≡ true → r .id ≡ i → hasKey (byId k i) r ≡ true
+  own-number i r e h = by-id k known i r ∙ and-both (is k r) (eqb (r .id) i) e (eq-eqb (r .id) i h)
+
+  module _ (rs : List Row) (unique : s2 rs ≡ true) (r : Row) (m : List·Memᴰ r rs) (e : is k r ≡ true) where
+    one-number : count (hasKey (byId k (r .id))) rs ≤ 1
+    unfolding hasKey
+    one-number =
+        let own : keyOf r ≡ byId k (r .id) = same-keys (keyOf r) (byId k (r .id)) (own-number (r .id) r e refl) in
+        ⊎-elim
+        (λ f. let z : k ≡ kindFree = sym (eqb-true (r .kind) k e) ∙ f in absurd (false≢true (rw z at known)))
+        (λ c. let z : count (hasKey (byId k (r .id))) rs ≡ 1 = rw own at c in omega arith)
+        (means-s2 rs .shows unique r m)
+
+    pub found-again : found (byId k (r .id)) rs ≡ r
+    unfolding found
+    found-again =
+        let p = hasKey (byId k (r .id)) in
+        let own = own-number (r .id) r e refl in
+        let some = le-leb 1 (count p rs) (count-has p r rs m own) in
+        count-one p (the p nothing rs) r rs one-number (the-has p nothing rs some) m (the-passes p nothing rs some) own
