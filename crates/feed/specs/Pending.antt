@@ -127,9 +127,3 @@ trade-next i f e =
     let rs = put sameRow s (traded e s) (f .rows) in
     there-submits e rs (submits rs e) i
     ∙ there-kept (aTrade i) rs (f .rows) (traded-found e (e .symbol) (f .rows) i)
-
-pub trade-after : (i : ℕ) (f : Fed) (es : List Row)
-    → there (aTrade i) (run applied f es .rows) ≡ there (aTrade i) (f .rows)
-unfolding run
-trade-after i f [] = refl
-trade-after i f (e ∷ es) = trade-after i (applied f e) es ∙ trade-next i f e

@@ -87,12 +87,6 @@ module _ (f : Fed) (e : Row) where
           ∙ rw q (sym (add-zero (found (aSecurity s) (f .rows) .m1)))
 
 -- ---- all of them
-pub there-after : (s : ℕ) (f : Fed) (es : List Row)
-    → there (aSecurity s) (run applied f es .rows) ≡ there (aSecurity s) (f .rows)
-unfolding run
-there-after s f [] = refl
-there-after s f (e ∷ es) = there-after s (applied f e) es ∙ there-next f e s
-
 pub volume-after : (s : ℕ) (f : Fed) (es : List Row) → there (aSecurity s) (f .rows) ≡ true
     → found (aSecurity s) (run applied f es .rows) .m1 ≡ found (aSecurity s) (f .rows) .m1 + sharesFor s es
 unfolding run sharesFor total

@@ -1,13 +1,14 @@
 -- What a test keeps of a list: what is found, counted and tested there, and what two tests that agree on the list's
 -- members do alike. Assumes nothing.
 use mathlib.Core.Path.{_≡_, refl, sym, ap, _∙_}
-use mathlib.Core.Bool.{Bool, true, false, not, _&&_, _||_, false≢true}
-use mathlib.Core.List.{List, [], _∷_, map, List·Memᴰ, List·Memᴰ·head, List·Memᴰ·tail, List·Memᴰ·not-nil}
+use mathlib.Core.Bool.{Bool, true, false, cond, not, _&&_, _||_, false≢true}
+use mathlib.Core.List.{List, [], _∷_, _++_, map, List·Memᴰ, List·Memᴰ·head, List·Memᴰ·tail, List·Memᴰ·not-nil}
 use Prim.Native.Nat.{_+_, _≤_}
 use native.Mathlib.Nat.{zero-add}
 use native.Mathlib.Omega.{arith}
 use lib.Dec.{leb}
 use Rattle.laws.specs.Search.{bit, count, every, keep, run, the, total}
+use Rattle.laws.specs.Total.{total-append, total-map, total-parts}
 use Rattle.laws.specs.Tests.{and-left, and-right}
 
 module _ {A : Type 0} where
@@ -179,3 +180,30 @@ module _ {A B : Type 0} (f : A → B) where
   unfolding run
   run-map step s [] = refl
   run-map step s (x ∷ l) = run-map step (step s (f x)) l
+
+-- ---- counts of joined, mapped and parted lists
+module _ {A : Type 0} (p : A → Bool) where
+  pub count-append : (k l : List A) → count p (k ++ l) ≡ count p k + count p l
+  unfolding count
+  count-append k l = total-append (λ x. bit (p x)) k l
+
+  pub count-map : {B : Type 0} (f : B → A) (l : List B) → count p (map f l) ≡ count (λ x. p (f x)) l
+  unfolding count
+  count-map f l = total-map (λ x. bit (p x)) f l
+
+  -- of a list that is parted
+  pub count-parts : (r : A → Bool) (l : List A) → count p (keep r l) + count p (keep (λ x. not (r x)) l) ≡ count p l
+  unfolding count
+  count-parts r l = total-parts (λ x. bit (p x)) r l
+
+  pub count-fewer : (r : A → Bool) (l : List A) → count p (keep r l) ≤ count p l
+  count-fewer r l = let h = count-parts r l in omega arith
+
+  pub count-single : (x : A) → count p (x ∷ []) ≡ bit (p x)
+  unfolding count total
+  count-single x = omega arith
+
+  pub count-cond : (t : Bool) (x : A) → count p (cond t (x ∷ []) []) ≤ bit (p x)
+  unfolding count total
+  count-cond true x = omega arith
+  count-cond false x = omega arith

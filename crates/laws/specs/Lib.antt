@@ -6,7 +6,10 @@ pub mod Search
 pub mod Walk
 pub mod Place
 pub mod Keep
+pub mod All
 pub mod Chain
 pub mod Sort
 pub mod Change
 pub mod Chunk
+pub mod Total
+pub mod Puts

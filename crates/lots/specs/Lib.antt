@@ -1,3 +1,4 @@
 pub mod Walk
 pub mod Money
 pub mod Lots
+pub mod Terms

@@ -3,14 +3,14 @@
 use mathlib.Core.Path.{_≡_, refl, sym, ap, ap₂, subst, _∙_}
 use mathlib.Core.Bool.{Bool, true, _&&_}
 use mathlib.Core.List.{List, [], _∷_, map, List·Memᴰ}
-use Prim.Native.Nat.{ℕ, zero, suc, _-_, _*_, _≤_, _<_}
+use Prim.Native.Nat.{ℕ, zero, suc, _+_, _-_, _*_, _≤_, _<_}
 use native.Mathlib.Nat.{mul-le-mul-right}
 use native.Mathlib.Omega.{arith}
 use lib.Dec.{eqb}
-use lib.ListN.{getD}
-use borrow.Author.Tests.{eqb-true}
+use lib.ListN.{length, getD}
+use borrow.Author.Tests.{eq-eqb, eqb-true, ne-eqb}
 use Rattle.laws.specs.Keep.{keep-from, map-on}
-use Rattle.laws.specs.Search.{keep, run}
+use Rattle.laws.specs.Search.{keep, run, the}
 use Rattle.laws.specs.Sort.{sort, sort-map, sort-map-of}
 use Rattle.laws.specs.Tests.{_⇔_, and-left}
 use Rattle.record.specs.Codes.{kindLot}
@@ -19,7 +19,7 @@ use Rattle.rules.specs.Meaning.{means-lot}
 use Rattle.rules.specs.Ranges.{priceMost, sharesMost}
 use Rattle.rules.specs.Rules.{as-kind}
 use Rattle.model.specs.Flags.{lifo}
-use Rattle.model.specs.Lots.{before, closes, lotsFor, start, step, walk}
+use Rattle.model.specs.Lots.{before, closes, closings, lotsFor, start, step, taken, walk}
 use Rattle.model.specs.Lots
 use Rattle.model.specs.Money.{buys}
 use Rattle.model.specs.Names.{aLot}
@@ -76,6 +76,12 @@ map-same : (l : List Row) → map (λ (r : Row). r) l ≡ l
 map-same [] = refl
 map-same (x ∷ l) = rw (map-same l)
 
+pub closes-lot : (form account symbol : ℕ) (l : Row) → closes form account symbol l ≡ true → is kindLot l ≡ true
+closes-lot form account symbol l e =
+    and-left (is kindLot l) (eqb (l .party) account)
+    (and-left (is kindLot l && eqb (l .party) account) (eqb (l .symbol) symbol)
+    (and-left (lotOf account symbol l) (buys form ⇔ short l) e))
+
 module _ (rs : List Row) (unique : s2 rs ≡ true) (form flags account symbol : ℕ) where
   abbrev again : Row → Row
   again l = found (aLot (l .id)) rs
@@ -83,12 +89,10 @@ module _ (rs : List Row) (unique : s2 rs ≡ true) (form flags account symbol : 
   a-lot : (l : Row) → List·Memᴰ l (keep (closes form account symbol) rs) → again l ≡ l
   a-lot l m =
       let k = keep-from (closes form account symbol) l rs m in
-      let held = and-left (lotOf account symbol l) (buys form ⇔ short l) (k .1) in
-      found-again kindLot refl rs unique l (k .0) (and-left (is kindLot l) (eqb (l .party) account)
-      (and-left (is kindLot l && eqb (l .party) account) (eqb (l .symbol) symbol) held))
+      found-again kindLot refl rs unique l (k .0) (closes-lot form account symbol l (k .1))
 
   -- each lot is found by its number
-  pub lots-again : map (λ (l : Row). found (aLot (l .id)) rs) (lotsFor rs form flags account symbol)
+  lots-again : map (λ (l : Row). found (aLot (l .id)) rs) (lotsFor rs form flags account symbol)
       ≡ lotsFor rs form flags account symbol
   unfolding lotsFor
   lots-again =
@@ -101,8 +105,7 @@ module _ (rs : List Row) (unique : s2 rs ≡ true) (form flags account symbol : 
 pub lot-price : (rs : List Row) (i : ℕ) {r : Row} → s1 rs ≡ true → r ≡ found (aLot i) rs → r .n1 ≤ priceMost
 unfolding found
 lot-price rs i e q =
-    rw q
-    (the-most (hasKey (aLot i)) (λ (r : Row). r .n1) priceMost rs e
+    rw q (the-most (hasKey (aLot i)) (λ (r : Row). r .n1) priceMost rs e
     (λ r f h.
     let own = and-left (is kindLot r) (eqb (r .id) i) (sym (by-id kindLot refl i r) ∙ h) in
     let k = eqb-true (r .kind) kindLot own in
@@ -168,11 +171,64 @@ module _ {form price : ℕ} {rs : List Row} {ids : List ℕ} {n₀ : ℕ} {w₀ 
       in
       s .exact ∙ ap made e
 
+-- ---- all the numbers of a queue give all the lots
+lots-all : (rs : List Row) (times ids : List ℕ) (n form flags account symbol : ℕ) → s2 rs ≡ true
+    → queued times ids n ≡ map mark (lotsFor rs form flags account symbol)
+    → lotsAt rs ids n ≡ lotsFor rs form flags account symbol
+lots-all rs times ids n form flags account symbol u q =
+    lots-queued rs times ids n (lotsFor rs form flags account symbol) q ∙ lots-again rs u form flags account symbol
+
 -- what the walk over all of them is
 pub walk-all : (form price : ℕ) (rs : List Row) (times ids : List ℕ) (n s flags account symbol : ℕ) {w : Walk}
     → s2 rs ≡ true → queued times ids n ≡ map mark (lotsFor rs form flags account symbol) → w ≡ made (start s)
     → run (step form price) (seen w) (lotsAt rs ids n) ≡ walk form price s (lotsFor rs form flags account symbol)
 unfolding walk
 walk-all form price rs times ids n s flags account symbol u q e =
-    rw e (ap (run (step form price) (start s))
-    (lots-queued rs times ids n (lotsFor rs form flags account symbol) q ∙ lots-again rs u form flags account symbol))
+    rw e (ap (run (step form price) (start s)) (lots-all rs times ids n form flags account symbol u q))
+
+-- ---- of the lots of all n₀ numbers `many` are closed, and those of the first n are left with a need
+pub record Counting (rs : List Row) (ids : List ℕ) (n₀ need₀ n need many : ℕ) : Type 0 where
+  pub same : many + length (closings need (lotsAt rs ids n)) ≡ length (closings need₀ (lotsAt rs ids n₀))
+  pub few : n + many ≤ queueMost
+
+pub count-start : (rs : List Row) (ids : List ℕ) (n need : ℕ) → n ≤ queueMost → Counting rs ids n need n need 0
+count-start rs ids n need h = record { same = omega arith; few = omega arith }
+
+pub closings-next : (need : ℕ) (l : Row) (ls : List Row) → (need ≡ 0 → ⊥)
+    → closings need (l ∷ ls) ≡ record { lot = l; shares = taken need l } ∷ closings (need - taken need l) ls
+unfolding closings
+closings-next need l ls h = rw (ne-eqb need 0 h)
+
+pub closings-none : (need : ℕ) (ls : List Row) → need ≡ 0 → closings need ls ≡ []
+unfolding closings
+closings-none need [] h = refl
+closings-none need (l ∷ ls) h = rw (eq-eqb need 0 h)
+
+module _ {rs : List Row} {ids : List ℕ} {n₀ need₀ n need many : ℕ} (s : Counting rs ids n₀ need₀ n need many) where
+  pub count-more : {r : Row} {need′ : ℕ} → 0 < n → (need ≡ 0 → ⊥) → r ≡ found (aLot (getD ids (n - 1) 0)) rs
+      → need′ ≡ need - taken need r → Counting rs ids n₀ need₀ (n - 1) need′ (many + 1)
+  count-more {r} {need′} h k a e =
+      let t = s .few in
+      let one : length (closings need (lotsAt rs ids n)) ≡ 1 + length (closings need′ (lotsAt rs ids (n - 1))) =
+      rw (lots-last rs ids n h, ← a, e, closings-next need r (lotsAt rs ids (n - 1)) k) (omega arith)
+      in
+      let all = s .same in
+      record { same = omega arith; few = omega arith }
+
+  pub count-met : need ≡ 0 → many ≡ length (closings need₀ (lotsAt rs ids n₀))
+  count-met h = let z = ap length (closings-none need (lotsAt rs ids n) h) in let all = s .same in omega arith
+
+  pub count-end : n ≤ 0 → many ≡ length (closings need₀ (lotsAt rs ids n₀))
+  unfolding lotsAt closings
+  count-end h =
+      let z : n ≡ 0 = omega arith in
+      let all = rw z at (s .same) in
+      omega arith
+
+-- and all in all as many as the rules close
+pub count-all : (rs : List Row) (times ids : List ℕ) (n form flags account symbol need : ℕ) {many : ℕ}
+    → s2 rs ≡ true → queued times ids n ≡ map mark (lotsFor rs form flags account symbol)
+    → many ≡ length (closings need (lotsAt rs ids n))
+    → many ≡ length (closings need (lotsFor rs form flags account symbol))
+count-all rs times ids n form flags account symbol need u q e =
+    e ∙ ap (λ (ls : List Row). length (closings need ls)) (lots-all rs times ids n form flags account symbol u q)

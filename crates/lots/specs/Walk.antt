@@ -75,6 +75,9 @@ made w = record {
 abbrev pub Within : ℕ → Lots.Walk → Type 0
 Within v w = (w .bought + w .need * priceMost ≤ v) × (w .sold + w .need * priceMost ≤ v)
 
+pub sold-most : (w : Walk) (n : ℕ) → n ≤ sharesMost → Within (n * priceMost) (seen w) → up (w .sold .0) ≤ valueMost
+sold-most w n h k = let l = k .1 in omega arith
+
 -- the shares that are taken are needed, and are in their range
 pub step-part : (w : Lots.Walk) (l : Row) {t : Shares} → Within valueMost w → t ≡ shares (pos (Lots.taken (w .need) l))
     → (up (t .0) ≤ w .need) × (w .need ≤ sharesMost)

@@ -15,7 +15,7 @@ fn plain(x: i64) -> u64
     if x < 0 { 0 } else { x as u64 }
 }
 
-fn signed(x: u64) -> i64
+pub fn signed(x: u64) -> i64
     requires { ⌜ x ≤ moneyMost ⌝ }
     ensures { λ r. ⌜ r ≡ pos x ⌝ }
 {

@@ -32,7 +32,7 @@ pub fn short(lot: Row) -> bool
 }
 
 // The shares of a lot, held or owed.
-fn size(lot: Row) -> u64
+pub fn size(lot: Row) -> u64
     ensures { λ r. ⌜ r ≡ size lot ⌝ }
 {
     side(short(lot), lot.m1)
@@ -50,6 +50,13 @@ fn taken(need: Shares, lot: Row) -> Shares
     ensures { λ r. ⌜ r ≡ shares (pos (taken (up (need .0)) lot)) ⌝ }
 {
     units::shares(least(units::in_shares(need), size(lot)))
+}
+
+// The shares still needed after a lot.
+pub fn left(need: u64, lot: Row) -> u64
+    ensures { λ r. ⌜ r ≡ need - taken need lot ⌝ }
+{
+    need - least(need, size(lot))
 }
 
 fn less(count: Shares, part: Shares) -> Shares

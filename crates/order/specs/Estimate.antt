@@ -3,8 +3,7 @@
 use mathlib.Core.Path.{_≡_}
 use mathlib.Core.Bool.{Bool, true, false, cond}
 use mathlib.Core.List.{List}
-use Prim.Native.Nat.{ℕ, _*_, _≤_, _<_}
-use native.Mathlib.Omega.{arith}
+use Prim.Native.Nat.{ℕ, _≤_, _<_}
 use lib.IntN.{pos}
 use borrow.Author.Tests.{le-leb, lt-leb}
 use Rattle.record.specs.Codes.{tms}
@@ -12,7 +11,6 @@ use Rattle.record.specs.Signed.{up}
 use Rattle.record.specs.declared.row.Row.{Row}
 use Rattle.kinds.specs.Units.{cents, shares}
 use Rattle.kinds.specs.declared.units.Cents.{Cents}
-use Rattle.kinds.specs.declared.units.PerTenThousand.{PerTenThousand}
 use Rattle.kinds.specs.declared.units.Price.{Price}
 use Rattle.kinds.specs.declared.units.Shares.{Shares}
 use Rattle.kinds.specs.declared.units.TradeNo.{TradeNo}
@@ -25,18 +23,13 @@ use Rattle.model.specs.Names.{aCustomer, aSecurity, anAccount}
 use Rattle.model.specs.Order.{View, atMarket, priceUsed, taxed, view, walked}
 use Rattle.model.specs.Rows.{found}
 use Rattle.model.specs.Sound.{sound}
-use Rattle.lots.specs.Walk.{Within, made, seen, valueMost}
+use Rattle.tables.specs.Found.{sound-s1}
+use Rattle.lots.specs.Terms.{perTenThousand, priceOf, rate-most, rates-most}
+use Rattle.lots.specs.Walk.{made}
 use Rattle.lots.specs.declared.walk.Walk.{Walk}
 use Rattle.order.specs.declared.estimate.Estimate.{Estimate}
 use Rattle.order.specs.declared.estimate.Terms.{Terms}
-use Rattle.tables.specs.Found.{sound-s1}
-use Rattle.order.specs.Bounds.{price-most, rate-most, rates-most}
-
-abbrev pub perTenThousand : ℕ → PerTenThousand
-perTenThousand x = record { 0 = x }
-
-abbrev pub priceOf : ℕ → Price
-priceOf x = record { 0 = x }
+use Rattle.order.specs.Bounds.{price-most}
 
 abbrev pub tradeNo : ℕ → TradeNo
 tradeNo x = record { 0 = x }
@@ -102,13 +95,6 @@ module _ (rs : List Row) (input : Row) {t : Terms} (good : sound rs ≡ true) (r
       let a = found (anAccount (input .party)) rs in
       let tier = found (aCustomer (a .n2)) rs .form in
       rw h (rate-most rs (input .form) tier (found (aSecurity (input .symbol)) rs .form) (input .n1) (sound-s1 rs good))
-
-  pub sold-fits : (w : Walk) {s : Shares} → s ≡ shares (pos (input .n1)) → Within (up (s .0) * priceMost) (seen w)
-      → up (w .sold .0) ≤ valueMost
-  sold-fits w {s} e k =
-      let n = shares-fit input right e in
-      let l = k .1 in
-      omega arith
 
   pub estimate-is : {p : Price} {s : Shares} {w : Walk} {x k : Cents} {u : Bool}
       → p ≡ priceOf (cond (atMarket input) (t .security .n1) (input .n2)) → s ≡ shares (pos (input .n1))

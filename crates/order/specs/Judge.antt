@@ -1,13 +1,12 @@
 -- The status of an order, told from what it read and worked out, and the laws of the code that comes to it. It is the
 -- status of the rules. Assumes nothing.
 use mathlib.Core.Path.{_≡_, refl, sym, ap, _∙_}
-use mathlib.Core.Bool.{Bool, true, false, cond, not}
+use mathlib.Core.Bool.{Bool, true, false, cond}
 use mathlib.Core.List.{List, [], _∷_}
 use Prim.Native.Nat.{ℕ, suc, _≤_, _<_}
-use native.Mathlib.Omega.{arith}
 use lib.Dec.{eqb, leb}
 use lib.ListN.{length}
-use borrow.Author.Tests.{eq-eqb, eqb-false, eqb-true, le-leb, lt-leb, ne-eqb}
+use borrow.Author.Tests.{eq-eqb, le-leb, lt-leb, ne-eqb}
 use Rattle.laws.specs.Change.{fill, puts, written}
 use Rattle.record.specs.Codes.{kindFree, tms}
 use Rattle.record.specs.Signed.{up}
@@ -22,6 +21,7 @@ use Rattle.model.specs.Money.{commissionOf}
 use Rattle.model.specs.Order.{View, atMarket, finish, order, plan, posting, priceUsed, view}
 use Rattle.model.specs.Plan.{Outcome, accepted, checked, finished, limited, pick, post, posted, refuse, refused, room}
 use Rattle.model.specs.Rows.{is, nothing, sameRow}
+use Rattle.lots.specs.Terms.{some}
 use Rattle.order.specs.declared.estimate.Estimate.{Estimate}
 use Rattle.order.specs.declared.estimate.Terms.{Terms}
 use Rattle.order.specs.Estimate.{estimateSeen, estimated, termsOf, termsSeen}
@@ -134,10 +134,6 @@ module _ (rs : List Row) (input : Row) (t : Terms) (e : Estimate) where
 pub ruleset judging = (no-account, no-security, no-tax, no-rate, no-charge, no-number, no-room, all-well)
 
 -- ---- it is the status that the rules define
-some : (n : ℕ) (t : Bool) → eqb n 0 ≡ t → leb 1 n ≡ not t
-some n true e = let z = eqb-true n 0 e in lt-leb 1 n (omega arith)
-some n false e = let z = eqb-false n 0 e in le-leb 1 n (omega arith)
-
 how-many : (t : Bool) (r : Row) → suc (suc (length (cond t [] (r ∷ [])))) ≡ cond t 2 3
 how-many true r = refl
 how-many false r = refl

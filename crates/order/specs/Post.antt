@@ -1,20 +1,19 @@
--- The rows that an order adds and the one that it answers, of the values that it read; and rows added one after the
--- other. Assumes nothing.
-use mathlib.Core.Path.{_≡_, refl, ap, subst, _∙_}
-use mathlib.Core.Bool.{false, cond}
+-- The rows that an order adds and the one that it answers, of the values that it read. Assumes nothing.
+use mathlib.Core.Path.{_≡_, refl, subst}
+use mathlib.Core.Bool.{cond}
 use mathlib.Core.List.{List, [], _∷_}
 use Prim.Native.Nat.{ℕ, _%_, _≤_, _<_}
 use lib.Dec.{leb}
 use lib.ListN.{set}
 use borrow.Author.Tests.{le-leb, lt-leb}
 use Rattle.laws.specs.Change.{fill}
-use Rattle.record.specs.Codes.{kindFree, kindOrder, kindRequest, kindTrade, kindTradeHistory, tms}
+use Rattle.record.specs.Codes.{kindOrder, kindRequest, kindTrade, kindTradeHistory, tms}
 use Rattle.record.specs.declared.row.Row.{Row}
 use Rattle.rules.specs.Ranges.{flags, form, id, kind, m1, m2, n1, n2, n3, n4, party, status, symbol, when}
 use Rattle.model.specs.Edit.{_≔_, inSymbol, new}
 use Rattle.model.specs.Order.{firstStatus}
-use Rattle.model.specs.Rows.{is, nothing, rows, sameRow}
-use Rattle.shelf.specs.Put.{Free, free-add}
+use Rattle.model.specs.Rows.{nothing, rows, sameRow}
+use Rattle.shelf.specs.Put.{Adding, Free, add-done, add-next, add-start}
 use Rattle.shelf.specs.Rows.{after, freeFrom}
 
 abbrev pub tradeRow : Row → ℕ → ℕ → ℕ → ℕ → Row
@@ -46,28 +45,6 @@ answerRow number tax charge rate price bought sold =
     new (
     kind ≔ kindOrder ∷ id ≔ number ∷ symbol ≔ inSymbol tax ∷ n1 ≔ charge ∷ n2 ≔ rate ∷ n3 ≔ price ∷ m1 ≔ bought
     ∷ m2 ≔ sold ∷ [])
-
--- ---- rows are added one after the other
--- what is left to add leads to w, and the search for the next free place may begin at `from`
-record Adding (w left : List Row) (b : List ℕ) (from : ℕ) : Type 0 where
-  free : Free b from
-  leads : fill sameRow nothing left (rows b) ≡ w
-
-add-start : (left : List Row) (b : List ℕ) → Free b 0 → Adding (fill sameRow nothing left (rows b)) left b 0
-add-start left b f = record { free = f; leads = refl }
-
--- one of them is added
-add-next : {w left : List Row} {n r : Row} {b b′ : List ℕ} {from next : ℕ} → Adding w (n ∷ left) b from
-    → is kindFree n ≡ false → r ≡ n → next ≡ after (rows b) (freeFrom (rows b) from)
-    → rows b′ ≡ set (rows b) (freeFrom (rows b) from) r → Adding w left b′ next
-unfolding fill
-add-next {w} {left} {n} {r} {b} {b′} {from} s e f a q =
-    let one = free-add b b′ from n (s .free) e a (rw f at q) in
-    record { free = one .1; leads = ap (fill sameRow nothing left) (one .0) ∙ s .leads }
-
-add-done : {w left : List Row} {b : List ℕ} {from : ℕ} → Adding w left b from → left ≡ [] → rows b ≡ w
-unfolding fill
-add-done s e = rw e at (s .leads)
 
 -- ---- a trade and its history, and the request of one that waits
 module _ (input : Row) (broker number price charge commission : ℕ) (b b₁ b₂ : List ℕ) {t h : Row} {next last : ℕ}

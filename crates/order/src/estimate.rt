@@ -3,14 +3,14 @@
 ghost use mathlib.Core.Bool.{cond, true};
 ghost use mathlib.Core.Path.{_≡_};
 ghost use Rattle.rules.specs.Rules.{orderInput};
-ghost use Rattle.model.specs.Band.{bandRate};
-ghost use Rattle.model.specs.Names.{aCharge, aSecurity};
+ghost use Rattle.model.specs.Names.{aCharge};
 ghost use Rattle.model.specs.Order.{atMarket, nextNumber};
 ghost use Rattle.model.specs.Rows.{found, rows};
 ghost use Rattle.model.specs.Sound.{s1, sound};
 ghost use Rattle.tables.specs.Bucket.{keyBucket, steadyBucket};
 ghost use Rattle.tables.specs.Table.{Indexed};
-ghost use Rattle.order.specs.Estimate.{estimated, perTenThousand, priceOf, termsOf, tradeNo};
+ghost use Rattle.lots.specs.Terms.{priceOf};
+ghost use Rattle.order.specs.Estimate.{estimated, termsOf, tradeNo};
 use kinds::units::Cents;
 use kinds::units::PerTenThousand;
 use kinds::units::Price;
@@ -19,6 +19,7 @@ use lots::lots::walk;
 use lots::money::commission;
 use lots::money::tax;
 use lots::money::untaxed;
+use lots::terms::rate;
 use lots::units::shares;
 use lots::walk::Walk;
 use record::codes::Kind;
@@ -28,11 +29,10 @@ use record::row::Row;
 use shelf::place::row_at;
 use shelf::search::find;
 use shelf::search::largest;
-use tables::band::band;
 use tables::sums::rates;
 use tables::table::Slots;
 use tables::table::party_row;
-use tables::table::security_at;
+use tables::table::security_row;
 
 // All that an order reads, but for the lots and the room. A row that is not there is nothing, and so is what it would
 // have told.
@@ -53,13 +53,6 @@ pub struct Estimate {
     pub commission: Cents,
 }
 
-fn security_row(book: &[u8], steady: &[u16; Slots::ALL], symbol: u64) -> Row
-    requires { ⌜ Indexed steadyBucket (now book) (now steady) 0 ⌝ }
-    ensures { λ r. ⌜ r ≡ found (aSecurity symbol) (rows (now (book .entry))) ⌝ }
-{
-    row_at(book, security_at(book, steady, symbol))
-}
-
 fn charge(book: &[u8], form: u8, tier: u8) -> u32
     ensures { λ r. ⌜ r ≡ found (aCharge form tier) (rows (now (book .entry))) .n1 ⌝ }
 {
@@ -75,20 +68,6 @@ fn charge(book: &[u8], form: u8, tier: u8) -> u32
         m2: 0,
     };
     row_at(book, find(book, key)).n1
-}
-
-fn rate(
-    book: &[u8],
-    keys: &[u16; Slots::ALL],
-    form: u8,
-    tier: u8,
-    exchange: u8,
-    shares: u32,
-) -> PerTenThousand
-    requires { ⌜ Indexed keyBucket (now book) (now keys) 0 ⌝ }
-    ensures { λ r. ⌜ r ≡ perTenThousand (bandRate (rows (now (book .entry))) form tier exchange shares) ⌝ }
-{
-    PerTenThousand(band(book, keys, form, tier, exchange, shares).n3)
 }
 
 // The number that the next trade gets.

@@ -9,10 +9,10 @@ use lib.Dec.{eqb, leb, ltb}
 use lib.ListN.{length, drop, getD, set, List·getD-eq-default}
 use lib.Seq.{getD-set-same, getD-set-other, set-out}
 use borrow.Author.Tests.{lt-ltb, le-ltb, eq-eqb, eqb-true, eqb-false, ltb-true, ltb-false}
-use Rattle.laws.specs.Change.{count-alike, keep-other, put, put-place, put-the, the-other, the-same}
+use Rattle.laws.specs.Change.{count-alike, fill, keep-other, put, put-place, put-the, the-other, the-same}
 use Rattle.laws.specs.Digits.{Digit, digits-equal, head-equal}
 use Rattle.laws.specs.Place.{every-at, seek-suc, the-none, the-passes}
-use Rattle.laws.specs.Search.{count, keep, place, seek}
+use Rattle.laws.specs.Search.{keep, place, seek}
 use Rattle.laws.specs.Tests.{one-truth}
 use Rattle.laws.specs.Walk.{from-alike}
 use Rattle.record.specs.Codes.{kindFree}
@@ -202,15 +202,8 @@ module _ (o n : Row) (rs : List Row) where
   unfolding found there
   found-same k e was now = rw was (the-same sameRow same-rows row-itself (hasKey k) nothing n now rs e)
 
-  pub there-same : (k : Key) → there k rs ≡ true → o ≡ found k rs → hasKey k n ≡ true
-      → there k (put sameRow o n rs) ≡ true
-  there-same k e was now = there-alike k (now ∙ sym (ap (hasKey k) was ∙ found-has k rs e)) ∙ e
-
   pub keep-put : (p : Row → Bool) → p o ≡ false → p n ≡ false → keep p (put sameRow o n rs) ≡ keep p rs
   keep-put p was now = keep-other sameRow same-rows p o n was now rs
-
-  pub count-put : (p : Row → Bool) → p n ≡ p o → count p (put sameRow o n rs) ≡ count p rs
-  count-put p e = count-alike sameRow same-rows p o n e rs
 
 -- after the lowest free place is filled the search goes on behind it
 lowest-next : (n : Row) → is kindFree n ≡ false → (rs : List Row)
@@ -266,3 +259,25 @@ free-put b b′ from j n s e o q =
       clean = rw q (clean-set (rows b) j n (s .clean) (eqb-false (n .kind) kindFree e));
       lowest = rw q (alike from ∙ s .lowest ∙ sym (alike 0));
     }
+
+-- ---- rows are added one after the other
+-- what is left to add leads to w, and the search for the next free place may begin at `from`
+pub record Adding (w left : List Row) (b : List ℕ) (from : ℕ) : Type 0 where
+  pub free : Free b from
+  pub leads : fill sameRow nothing left (rows b) ≡ w
+
+pub add-start : (left : List Row) (b : List ℕ) → Free b 0 → Adding (fill sameRow nothing left (rows b)) left b 0
+add-start left b f = record { free = f; leads = refl }
+
+-- one of them is added
+pub add-next : {w left : List Row} {n r : Row} {b b′ : List ℕ} {from next : ℕ} → Adding w (n ∷ left) b from
+    → is kindFree n ≡ false → r ≡ n → next ≡ after (rows b) (freeFrom (rows b) from)
+    → rows b′ ≡ set (rows b) (freeFrom (rows b) from) r → Adding w left b′ next
+unfolding fill
+add-next {w} {left} {n} {r} {b} {b′} {from} s e f a q =
+    let one = free-add b b′ from n (s .free) e a (rw f at q) in
+    record { free = one .1; leads = ap (fill sameRow nothing left) (one .0) ∙ s .leads }
+
+pub add-done : {w left : List Row} {b : List ℕ} {from : ℕ} → Adding w left b from → left ≡ [] → rows b ≡ w
+unfolding fill
+add-done s e = rw e at (s .leads)

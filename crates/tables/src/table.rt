@@ -72,7 +72,7 @@ pub fn build(book: &[u8], keys: &mut [u16; Slots::ALL], steady: &mut [u16; Slots
 }
 
 // The place of the row of a key, the number of records where there is none.
-fn by_id(book: &[u8], keys: &[u16; Slots::ALL], kind: u8, id: u64) -> usize
+pub fn by_id(book: &[u8], keys: &[u16; Slots::ALL], kind: u8, id: u64) -> usize
     requires { ⌜ Indexed keyBucket (now book) (now keys) 0 ⌝ }
     requires { ⌜ among kind idKinds ≡ true ⌝ }
     ensures { λ r. ⌜ r ≡ place (hasKey (byId kind id)) (rows (now (book .entry))) ⌝ }
@@ -90,7 +90,7 @@ fn by_id(book: &[u8], keys: &[u16; Slots::ALL], kind: u8, id: u64) -> usize
     c
 }
 
-fn by_party(book: &[u8], keys: &[u16; Slots::ALL], kind: u8, party: u32) -> usize
+pub fn by_party(book: &[u8], keys: &[u16; Slots::ALL], kind: u8, party: u32) -> usize
     requires { ⌜ Indexed keyBucket (now book) (now keys) 0 ⌝ }
     requires { ⌜ among kind partyKinds ≡ true ⌝ }
     ensures { λ r. ⌜ r ≡ place (hasKey (byParty kind party)) (rows (now (book .entry))) ⌝ }
@@ -143,7 +143,7 @@ pub fn security_at(book: &[u8], steady: &[u16; Slots::ALL], symbol: u64) -> usiz
     c
 }
 
-fn by_holder(book: &[u8], keys: &[u16; Slots::ALL], account: u32, symbol: u64) -> usize
+pub fn by_holder(book: &[u8], keys: &[u16; Slots::ALL], account: u32, symbol: u64) -> usize
     requires { ⌜ Indexed keyBucket (now book) (now keys) 0 ⌝ }
     ensures { λ r. ⌜ r ≡ place (hasKey (aSummary account symbol)) (rows (now (book .entry))) ⌝ }
 {
@@ -200,11 +200,25 @@ pub fn security_there(book: &[u8], steady: &[u16; Slots::ALL], symbol: u64) -> b
     security_at(book, steady, symbol) < book.len() / Grid::SIZE
 }
 
+pub fn security_row(book: &[u8], steady: &[u16; Slots::ALL], symbol: u64) -> Row
+    requires { ⌜ Indexed steadyBucket (now book) (now steady) 0 ⌝ }
+    ensures { λ r. ⌜ r ≡ found (aSecurity symbol) (rows (now (book .entry))) ⌝ }
+{
+    row_at(book, security_at(book, steady, symbol))
+}
+
 pub fn summary_there(book: &[u8], keys: &[u16; Slots::ALL], account: u32, symbol: u64) -> bool
     requires { ⌜ Indexed keyBucket (now book) (now keys) 0 ⌝ }
     ensures { λ r. ⌜ r ≡ there (aSummary account symbol) (rows (now (book .entry))) ⌝ }
 {
     by_holder(book, keys, account, symbol) < book.len() / Grid::SIZE
+}
+
+pub fn summary_row(book: &[u8], keys: &[u16; Slots::ALL], account: u32, symbol: u64) -> Row
+    requires { ⌜ Indexed keyBucket (now book) (now keys) 0 ⌝ }
+    ensures { λ r. ⌜ r ≡ found (aSummary account symbol) (rows (now (book .entry))) ⌝ }
+{
+    row_at(book, by_holder(book, keys, account, symbol))
 }
 
 // The second row has the key of the first.

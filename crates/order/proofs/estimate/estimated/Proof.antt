@@ -1,6 +1,7 @@
 -- A sound book and a good input keep all values in their range, and each is the one of the rules. Assumes nothing.
 use Rattle.tables.specs.Found.{sound-s1, sound-s2}
-use Rattle.order.specs.Estimate.{estimate-is, price-fits, rate-fits, rates-fit, shares-fit, sold-fits}
+use Rattle.lots.specs.Walk.{sold-most}
+use Rattle.order.specs.Estimate.{estimate-is, price-fits, rate-fits, rates-fit, shares-fit}
 use borrow.Author.Needs.{needs}
 use Rattle.order.proofs.estimate.estimated.Statement.{statement}
 use Rattle.order.proofs.estimate.estimated.Tie as tie
@@ -20,7 +21,7 @@ tax-requires c κs =
     let right = pre .1 .0 .1 in
     let terms = pre .1 .1 in
     let count = c .before .shares .ensures in
-    (rates-fit _ _ good right terms, sold-fits _ _ good right terms (c .walk .result) count (c .walk .ensures .1))
+    (rates-fit _ _ good right terms, sold-most (c .walk .result) _ (shares-fit _ right count) (c .walk .ensures .1))
 
 untaxed-requires : tie.Need-untaxed-requires
 untaxed-requires c κs =
@@ -30,7 +31,7 @@ untaxed-requires c κs =
     let right = pre .1 .0 .1 in
     let terms = pre .1 .1 in
     let count = w .before .shares .ensures in
-    (rates-fit _ _ good right terms, sold-fits _ _ good right terms (w .walk .result) count (w .walk .ensures .1))
+    (rates-fit _ _ good right terms, sold-most (w .walk .result) _ (shares-fit _ right count) (w .walk .ensures .1))
 
 commission-requires : tie.Need-commission-requires
 commission-requires c κs =

@@ -2,10 +2,10 @@
 use mathlib.Core.Path.{ap}
 use Rattle.record.specs.declared.row.Row.{Row}
 use Rattle.model.specs.Band.{bandRate}
-use Rattle.order.specs.Estimate.{perTenThousand}
+use Rattle.lots.specs.Terms.{perTenThousand}
 use borrow.Author.Needs.{needs}
-use Rattle.order.proofs.estimate.rate.Statement.{statement}
-use Rattle.order.proofs.estimate.rate.Tie as tie
+use Rattle.lots.proofs.terms.rate.Statement.{statement}
+use Rattle.lots.proofs.terms.rate.Tie as tie
 
 returns : tie.Need-returns
 unfolding bandRate
