@@ -181,7 +181,7 @@ plan input v =
     (posting input v f)
 
 -- "the broker gains one trade and the commission"
-abbrev brokerAfter : Row → ℕ → Row
+abbrev pub brokerAfter : Row → ℕ → Row
 brokerAfter b commission = changed b (n1 ≔ (b .n1 + 1) ∷ m1 ≔ (b .m1 + commission) ∷ [])
 
 -- "balance, broker's trades or commission total .. would leave its range"
@@ -190,7 +190,7 @@ within b f =
     leb (natAbs (f .balance)) moneyMost && leb (b .n1 + 1) (brokerTrades .high)
     && leb (b .m1 + f .commission) (commissionTotal .high)
 
-abbrev withBroker : Row → ℕ → Posting → Posting
+abbrev pub withBroker : Row → ℕ → Posting → Posting
 withBroker b commission p = record {
   changes = p .changes ++ (b, brokerAfter b commission) ∷ [];
   freed = p .freed;

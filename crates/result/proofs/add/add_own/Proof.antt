@@ -1,0 +1,24 @@
+-- The rows of each step follow those of the steps before. Assumes nothing.
+use borrow.Author.Needs.{needs}
+use Rattle.result.specs.Add.{own-added}
+use Rattle.result.proofs.add.add_own.Statement.{statement}
+use Rattle.result.proofs.add.add_own.Tie as tie
+
+returns : tie.Need-returns
+returns c =
+    let third = c .before .before in
+    let second = third .before .before .before .before in
+    let first = second .before .before .before .before in
+    let v = first .before .before .before .args in
+    own-added (v .trade) (v .summary) (v .price .0) (v .left) (v .amount .0) (v .time) (first .add-opened .ensures)
+    (second .add-summary .ensures) (third .add-final .ensures)
+
+pub add-own-spec : {M : Type 1} → statement M
+add-own-spec =
+    tie.close
+    (tie.spec
+    (λ c κs. search needs)
+    (λ c κs. search needs)
+    (λ c κs. search needs)
+    (λ c. search needs)
+    returns)

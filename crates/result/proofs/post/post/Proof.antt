@@ -1,0 +1,100 @@
+-- Each row goes where the rules have it: what is added first, then what is changed and freed. Assumes nothing.
+use mathlib.Core.Path.{_≡_, _∙_}
+use Rattle.shelf.specs.Put.{free-start}
+use Rattle.tables.specs.Found.{sound-s1, sound-s2}
+use Rattle.result.specs.Figures.{trade-shares}
+use Rattle.result.specs.Post.{all-posted, broker-fits, left-fits, time-fits}
+use Rattle.result.specs.Summary.{few-rows, summary-seen}
+use borrow.Author.Needs.{needs}
+use Rattle.result.proofs.post.post.Statement.{statement}
+use Rattle.result.proofs.post.post.Tie as tie
+
+lot-places-requires : tie.Need-lot-places-requires
+lot-places-requires c κs =
+    let start = c .before .before .before .before .before .before .before .before .before in
+    (start .pre .0, sound-s2 _ (start .pre .1 .0 .0))
+
+add-closings-requires : tie.Need-add-closings-requires
+add-closings-requires c κs =
+    let lots = c .before .before in
+    let start = c .before .before .before .before .before .before .before .before .before .before .before .before in
+    let good = start .pre .1 .0 .0 in
+    let most = trade-shares _ (start .args .input) good (start .pre .1 .1 .0 .0) in
+    (free-start _ (sound-s1 _ good), ((sound-s1 _ good, sound-s2 _ good), ((lots .lot-places .ensures .1, most), lots .lot-places .ensures .0)))
+
+add-own-requires : tie.Need-add-own-requires
+add-own-requires c κs =
+    let left = c .before .before in
+    let closed = (c .before .before .before .before .before) in
+    let start = c .before .before .before .before .before .before .before .before .before .before .before .before .before .before .before .before .before .before in
+    let good = start .pre .1 .0 .0 in
+    let read = start .pre .1 .1 .0 .0 in
+    let reckoned = start .pre .1 .1 .0 .1 in
+    let v = start .args in
+    let most = trade-shares _ (v .input) good read in
+    let right = start .pre .1 .0 .1 in
+    let few = few-rows _ (start .pre .0 .few) in (
+      closed .add-closings .ensures .0 .free,
+      (
+        (summary-seen _ good (v .input) few read, most),
+        (left-fits _ (v .input) good right read reckoned (left .in-shares .ensures), time-fits _ (v .input) good right read reckoned),
+      ),
+    )
+
+change-requires : tie.Need-change-requires
+change-requires c κs =
+    let broker = (c .before .before .before .before .before .before .before .before .before .before .before .before .before .before .before .before .before .before .before .before .before) in
+    let start = c .before .before .before .before .before .before .before .before .before .before .before .before .before .before .before .before .before .before .before .before .before .before .before .before .before .before in
+    let good = start .pre .1 .0 .0 in
+    let read = start .pre .1 .1 .0 .0 in
+    let v = start .args in
+    let few = few-rows _ (start .pre .0 .few) in (
+      (summary-seen _ good (v .input) few read, trade-shares _ (v .input) good read),
+      broker-fits (v .figures) (broker .party-row .ensures) (start .pre .1 .1 .1 .within),
+    )
+
+free-summary-requires : tie.Need-free-summary-requires
+free-summary-requires c κs =
+    let start = c .before .before .before .before .before .before .before .before .before .before .before .before .before .before .before .before .before .before .before .before .before .before .before .before .before .before .before .before .before .before .before .before .before .before .before in
+    let good = start .pre .1 .0 .0 in
+    let read = start .pre .1 .1 .0 .0 in
+    let v = start .args in
+    let few = few-rows _ (start .pre .0 .few) in
+    (summary-seen _ good (v .input) few read, trade-shares _ (v .input) good read)
+
+returns : tie.Need-returns
+returns c =
+    let freed = (c .before .before) in
+    let lots = (c .before .before .before .before .before .before) in
+    let changed = (c .before .before .before .before .before .before .before .before .before .before .before) in
+    let part = (c .before .before .before .before .before .before .before .before .before .before .before .before .before .before .before) in
+    let own = (c .before .before .before .before .before .before .before .before .before .before .before .before .before .before .before .before .before .before .before) in
+    let left = (c .before .before .before .before .before .before .before .before .before .before .before .before .before .before .before .before .before .before .before .before .before .before) in
+    let closed = (c .before .before .before .before .before .before .before .before .before .before .before .before .before .before .before .before .before .before .before .before .before .before .before .before .before) in
+    let places = (c .before .before .before .before .before .before .before .before .before .before .before .before .before .before .before .before .before .before .before .before .before .before .before .before .before .before .before .before .before .before .before) in
+    let broker = (c .before .before .before .before .before .before .before .before .before .before .before .before .before .before .before .before .before .before .before .before .before .before .before .before .before .before .before .before .before .before .before .before .before) in
+    let start = c .before .before .before .before .before .before .before .before .before .before .before .before .before .before .before .before .before .before .before .before .before .before .before .before .before .before .before .before .before .before .before .before .before .before .before .before .before .before in
+    let good = start .pre .1 .0 .0 in
+    let v = start .args in
+    let told = closed .add-closings .ensures in
+    all-posted _ (v .input) good (v .terms) (v .figures) (start .pre .1 .1 .0 .0) (start .pre .1 .1 .0 .1)
+    (start .pre .1 .1 .1) (places .find-places .ensures) (broker .party-row .ensures) _ _ _ _ _ _ (told .0)
+    (told .1 .1 .0) (told .1 .0) (left .in-shares .ensures) (own .add-own .ensures) (part .reduce .ensures)
+    (changed .change .ensures) (lots .free-lots .ensures) (freed .free-summary .ensures)
+
+pub post-spec : {M : Type 1} → statement M
+post-spec =
+    tie.close
+    (tie.spec
+    (λ c κs. search needs)
+    (λ c κs. search needs)
+    lot-places-requires
+    add-closings-requires
+    (λ c κs. search needs)
+    add-own-requires
+    (λ c κs. search needs)
+    change-requires
+    (λ c κs. search needs)
+    free-summary-requires
+    (λ c. search needs)
+    returns)

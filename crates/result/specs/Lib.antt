@@ -1,0 +1,15 @@
+pub mod Figures
+pub mod Signed
+pub mod Judge
+pub mod Rows
+pub mod Add
+pub mod Change
+pub mod Place
+pub mod Places
+pub mod Close
+pub mod Apart
+pub mod Own
+pub mod Posted
+pub mod Summary
+pub mod Post
+pub mod Whole

@@ -1,0 +1,158 @@
+// The rows that a result adds, those that it changes, and the one that it answers.
+ghost use mathlib.Core.Bool.{cond};
+ghost use mathlib.Core.Path.{_≡_};
+ghost use Prim.Native.Nat.{_+_, _≤_};
+ghost use lib.IntN.{natAbs};
+ghost use Rattle.record.specs.Signed.{up};
+ghost use Rattle.rules.specs.Ranges.{brokerTrades, commissionTotal, sharesMost};
+ghost use Rattle.rules.specs.Ranges;
+ghost use Rattle.model.specs.Edit.{bits32};
+ghost use Rattle.model.specs.Flags.{cash};
+ghost use Rattle.result.specs.Rows.{answerRow, brokerAfter, cashRow, holding, lotHistory, newLot, newSummary};
+ghost use Rattle.result.specs.Rows.{settlementRow, tradeAfter};
+use kinds::units::Cents;
+use kinds::units::Price;
+use kinds::units::Shares;
+use lots::units::in_cents;
+use record::bytes::bits64;
+use record::codes::Kind;
+use record::codes::TradeStatus;
+use record::row::Row;
+use reply::in_symbol;
+use shelf::place::nothing;
+
+struct Due {}
+
+impl Due {
+    const SECONDS: u32 = 172_800;
+}
+
+// The 32 bits of a count of shares.
+fn low_bits(count: Shares) -> u32
+    requires { ⌜ natAbs (count .0) ≤ sharesMost ⌝ }
+    ensures { λ r. ⌜ r ≡ bits32 (count .0) ⌝ }
+{
+    (bits64(count.0) % 4_294_967_296) as u32
+}
+
+fn cash_flag(flags: u8) -> u8
+    ensures { λ r. ⌜ r ≡ cond (cash flags) 1 0 ⌝ }
+{
+    flags % 2
+}
+
+pub fn lot_history(lot: u64, trade: u64, old: Shares, left: Shares) -> Row
+    requires { ⌜ (natAbs (old .0) ≤ sharesMost) × (natAbs (left .0) ≤ sharesMost) ⌝ }
+    ensures { λ r. ⌜ r ≡ lotHistory lot trade (old .0) (left .0) ⌝ }
+{
+    let mut h = nothing();
+    h.kind = Kind::LOT_HISTORY;
+    h.id = lot;
+    h.m2 = trade;
+    h.n1 = low_bits(old);
+    h.n2 = low_bits(left);
+    h
+}
+
+pub fn new_lot(trade: Row, price: Price, count: Shares, time: u32) -> Row
+    ensures { λ r. ⌜ r ≡ newLot trade (price .0) (count .0) time ⌝ }
+{
+    let mut l = nothing();
+    l.kind = Kind::LOT;
+    l.party = trade.party;
+    l.id = trade.id;
+    l.symbol = trade.symbol;
+    l.n1 = price.0;
+    l.m1 = bits64(count.0);
+    l.time = time;
+    l
+}
+
+pub fn new_summary(trade: Row, count: Shares) -> Row
+    ensures { λ r. ⌜ r ≡ newSummary trade (count .0) ⌝ }
+{
+    let mut s = nothing();
+    s.kind = Kind::SUMMARY;
+    s.party = trade.party;
+    s.symbol = trade.symbol;
+    s.m1 = bits64(count.0);
+    s
+}
+
+pub fn settlement_row(trade: Row, amount: Cents, time: u32) -> Row
+    requires { ⌜ time ≤ Ranges.time .high ⌝ }
+    ensures { λ r. ⌜ r ≡ settlementRow trade (amount .0) time ⌝ }
+{
+    let mut s = nothing();
+    s.kind = Kind::SETTLEMENT;
+    s.flags = cash_flag(trade.flags);
+    s.id = trade.id;
+    s.m1 = bits64(amount.0);
+    s.time = time + Due::SECONDS;
+    s
+}
+
+pub fn cash_row(trade: Row, amount: Cents, time: u32) -> Row
+    ensures { λ r. ⌜ r ≡ cashRow trade (amount .0) time ⌝ }
+{
+    let mut c = nothing();
+    c.kind = Kind::CASH;
+    c.id = trade.id;
+    c.m1 = bits64(amount.0);
+    c.time = time;
+    c
+}
+
+pub fn trade_after(trade: Row, price: Price, commission: Cents, tax: Cents, time: u32) -> Row
+    ensures { λ r. ⌜ r ≡ tradeAfter trade (price .0) (up (commission .0)) (up (tax .0)) time ⌝ }
+{
+    let mut t = trade;
+    t.status = TradeStatus::COMPLETED;
+    t.n3 = price.0;
+    t.m1 = in_cents(commission);
+    t.m2 = in_cents(tax);
+    t.time = time;
+    t
+}
+
+pub fn broker_after(broker: Row, commission: Cents) -> Row
+    requires { ⌜ broker .n1 + 1 ≤ brokerTrades .high ⌝ }
+    requires { ⌜ broker .m1 + up (commission .0) ≤ commissionTotal .high ⌝ }
+    ensures { λ r. ⌜ r ≡ brokerAfter broker (up (commission .0)) ⌝ }
+{
+    let mut b = broker;
+    let fee = in_cents(commission);
+    b.n1 = b.n1 + 1;
+    b.m1 = b.m1 + fee;
+    b
+}
+
+pub fn account_after(account: Row, balance: Cents) -> Row
+    ensures { λ r. ⌜ r ≡ holding account (balance .0) ⌝ }
+{
+    let mut a = account;
+    a.m1 = bits64(balance.0);
+    a
+}
+
+// A lot or a summary with another count of shares.
+pub fn holding(row: Row, count: Shares) -> Row
+    ensures { λ r. ⌜ r ≡ holding row (count .0) ⌝ }
+{
+    let mut h = row;
+    h.m1 = bits64(count.0);
+    h
+}
+
+pub fn answer_row(trade: Row, tax: Cents, balance: Cents, settlement: Cents) -> Row
+    ensures { λ r. ⌜ r ≡ answerRow trade (up (tax .0)) (balance .0) (settlement .0) ⌝ }
+{
+    let mut a = nothing();
+    a.kind = Kind::RESULT;
+    a.party = trade.party;
+    a.id = trade.id;
+    a.symbol = in_symbol(in_cents(tax));
+    a.m1 = bits64(balance.0);
+    a.m2 = bits64(settlement.0);
+    a
+}
