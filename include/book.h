@@ -171,6 +171,61 @@ int32_t book_order(uint8_t *book, size_t book_len, const uint8_t *input, size_t 
                    size_t answer_len);
 
 /*
+ * Trade-Result: a submitted trade is carried out, at the price of the result.
+ *
+ *   book    read and written; book_len is 64 times the number of records, 1 to 4,096
+ *   input   read: one record, input_len is 64. Kind 34, id the trade's number 1..999,999,999,999,999, n1 price
+ *           1..99,999,999, time 0..4,000,000,000; all else zero
+ *   answer  written: one record, answer_len is 64
+ *
+ * Statuses, in the order of checking: BOOK_BAD_LENGTH, BOOK_BAD_BOOK, BOOK_UNSOUND, BOOK_BAD_INPUT,
+ * BOOK_RESULT_NO_TRADE, BOOK_RESULT_NOT_SUBMITTED, BOOK_RESULT_NO_TAX, BOOK_RESULT_NO_RATE, BOOK_OVER_LIMIT (the
+ * broker's trades would be above 999,999,999, its commission total above 999,999,999,999,999, or the balance, if the
+ * trade is cash, outside -999,999,999,999,999..999,999,999,999,999), BOOK_NO_ROOM, BOOK_DONE.
+ *
+ * What the trade comes to:
+ * - A sell closes the account's positive lots of the symbol, a buy its negative ones, by rising time and then trade
+ *   number, or both falling if the trade is LIFO, until as many shares are closed as the trade has or no lot is left.
+ *   The last lot may be closed in part. For a sell, closed shares add their lot's price to the bought value and the
+ *   result's price to the sold value; for a buy, the reverse. Shares that close no lot open a new one.
+ * - The tax is (sold - bought) * sum of the customer's rates / 100,000 for an account of tax status 1 or 2 with
+ *   sold > bought, else 0. The commission is rate * shares * price / 10,000, by the band of the trade's type, the
+ *   customer's tier and the security's exchange that holds the trade's shares. Both are rounded to the nearest cent,
+ *   halves up.
+ * - The settlement is shares * price - charge - commission for a sell, and -(shares * price + charge + commission)
+ *   for a buy, by the charge that the trade's row has; less the tax for an account of tax status 1 alone.
+ *
+ * On BOOK_DONE these rows changed:
+ * - the trade: status 3, n3 the price, m1 the commission, m2 the tax, and the result's time
+ * - each lot that was closed in part: m1 what is left of it. A lot that was closed became a free record
+ * - the summary of the account and symbol: m1 more by a buy's shares, or less by a sell's, even where its sign changes.
+ *   At zero it became a free record
+ * - the account's broker: n1 more by one trade, m1 by the commission
+ * - for a cash trade alone, the account: m1 more by the settlement
+ * and these were added, in this order, on the lowest places that were free when the call began: places that this call
+ * freed are not among them, nor do they count for BOOK_NO_ROOM.
+ * - for each lot that was closed or closed in part, in the order of closing, a lot history: id the lot's number, m2 the
+ *   trade's, n1 and n2 the lot's shares before and after
+ * - where shares are left over, a lot history of the new lot: id and m2 the trade's number, n1 0, n2 the lot's shares;
+ *   and the lot: number, account and symbol of the trade, the result's price and time, m1 the shares, negative for a
+ *   sell
+ * - where the account had no summary of the symbol, that summary
+ * - a history row: the trade's number, status 3 and the result's time
+ * - the settlement: the trade's number and its flag cash, m1 the amount, time 172,800 after the result's
+ * - for a cash trade alone, the cash row: the trade's number, m1 the same amount and the result's time
+ * The book is sound again, and no other byte of it changed. The answer is zeros but for these fields:
+ *
+ *   kind   byte 0       34
+ *   party  bytes 4-7    the account
+ *   id     bytes 8-15   the trade's number
+ *          bytes 16-23  the tax, little-endian, where a row has its symbol
+ *   m1     bytes 40-47  the account's balance, signed, as it is now
+ *   m2     bytes 48-55  the settlement, signed
+ */
+int32_t book_result(uint8_t *book, size_t book_len, const uint8_t *input, size_t input_len, uint8_t *answer,
+                    size_t answer_len);
+
+/*
  * Market-Feed: new prices. Entries apply in turn, all of them or none.
  *
  *   book    read and written; book_len is 64 times the number of records, 1 to 4,096

@@ -29,12 +29,20 @@ static const int32_t of_order[] = {SHARED,
                                    BOOK_ORDER_NO_CHARGE,
                                    BOOK_OVER_LIMIT,
                                    BOOK_NO_ROOM};
+static const int32_t of_result[] = {SHARED,
+                                    BOOK_RESULT_NO_TRADE,
+                                    BOOK_RESULT_NOT_SUBMITTED,
+                                    BOOK_RESULT_NO_TAX,
+                                    BOOK_RESULT_NO_RATE,
+                                    BOOK_OVER_LIMIT,
+                                    BOOK_NO_ROOM};
 
 #define ALL(list) list, sizeof list / sizeof list[0]
 const struct call calls[] = {
     {"lookup", BOOK_KIND_LOOKUP, lookup, 1, ALL(of_lookup)},
     {"feed", BOOK_KIND_FEED, book_feed, 0, ALL(of_feed)},
     {"order", BOOK_KIND_ORDER, book_order, 0, ALL(of_order)},
+    {"result", BOOK_KIND_RESULT, book_result, 0, ALL(of_result)},
 };
 const size_t call_count = sizeof calls / sizeof calls[0];
 

@@ -1,122 +1,13 @@
 /* Samples of orders that are written out here, from the page of the rules alone. */
-#include "samples.h"
+#include "figures.h"
 
 #include <string.h>
 
-enum { ACCOUNT = 1, BROKER = 21, CUSTOMER = 31, TAX_RATE = 41, TIER = 2, EXCHANGE = 3, RATE = 50, TIME = 300 };
-enum { DUE_AFTER = 172800 };
-static const uint64_t MOST_NUMBER = 999999999999999u;
-
-/* The places of what stands in every book here. There is a band and a charge for each trade type, beginning here. */
-enum { AT_TAX_RATE = 2, AT_ACCOUNT = 4, AT_SECURITY = 5, AT_BANDS = 6, AT_CHARGES = 11, STANDING = 16 };
-
-static size_t band_at(uint8_t type)
-{
-    return AT_BANDS + type - BOOK_TMB;
-}
-
-static size_t charge_at(uint8_t type)
-{
-    return AT_CHARGES + type - BOOK_TMB;
-}
-
-/* Each type has its own; that of TMS is the 500 of the figures. */
-static uint32_t charge_of(uint8_t type)
-{
-    return 250u * type;
-}
-
-/* The account of the figures, without a trade. */
-static void stand(const char *letters, uint32_t last_price)
-{
-    uint8_t *row, type;
-    begin();
-    put(add(&book, BOOK_KIND_BROKER), BOOK_AT_PARTY, 4, BROKER);
-    row = add(&book, BOOK_KIND_CUSTOMER);
-    put(row, BOOK_AT_PARTY, 4, CUSTOMER);
-    row[BOOK_AT_TYPE] = TIER;
-    row = add(&book, BOOK_KIND_TAX_RATE);
-    put(row, BOOK_AT_PARTY, 4, TAX_RATE);
-    put(row, BOOK_AT_N1, 4, 20000);
-    row = add(&book, BOOK_KIND_CUSTOMER_RATE);
-    put(row, BOOK_AT_PARTY, 4, CUSTOMER);
-    put(row, BOOK_AT_N1, 4, TAX_RATE);
-    row = add(&book, BOOK_KIND_ACCOUNT);
-    put(row, BOOK_AT_PARTY, 4, ACCOUNT);
-    put(row, BOOK_AT_N1, 4, BROKER);
-    put(row, BOOK_AT_N2, 4, CUSTOMER);
-    row[BOOK_AT_TYPE] = 1;
-    put(row, BOOK_AT_M1, 8, 1000000);
-    row = add(&book, BOOK_KIND_SECURITY);
-    set_symbol(row, letters);
-    row[BOOK_AT_TYPE] = EXCHANGE;
-    put(row, BOOK_AT_N1, 4, last_price);
-    for (type = BOOK_TMB; type <= BOOK_TSL; type++) {
-        row = add(&book, BOOK_KIND_BAND);
-        row[BOOK_AT_TYPE] = type;
-        row[BOOK_AT_STATUS] = TIER;
-        row[BOOK_AT_FLAGS] = EXCHANGE;
-        put(row, BOOK_AT_N1, 4, 1);
-        put(row, BOOK_AT_N2, 4, 1000);
-        put(row, BOOK_AT_N3, 4, RATE);
-    }
-    for (type = BOOK_TMB; type <= BOOK_TSL; type++) {
-        row = add(&book, BOOK_KIND_CHARGE);
-        row[BOOK_AT_TYPE] = type;
-        row[BOOK_AT_STATUS] = TIER;
-        put(row, BOOK_AT_N1, 4, charge_of(type));
-    }
-}
-
-/* Three rows: a completed trade that is not cash, its history and its settlement. */
-static void add_completed(uint64_t id, int64_t shares, uint32_t price, uint32_t time)
-{
-    uint8_t *row = add(&book, BOOK_KIND_TRADE);
-    put(row, BOOK_AT_ID, 8, id);
-    row[BOOK_AT_TYPE] = shares > 0 ? BOOK_TMB : BOOK_TMS;
-    row[BOOK_AT_STATUS] = BOOK_CMPT;
-    put(row, BOOK_AT_PARTY, 4, ACCOUNT);
-    set_symbol(row, "ABC");
-    put(row, BOOK_AT_N1, 4, (uint64_t)(shares > 0 ? shares : -shares));
-    put(row, BOOK_AT_N2, 4, price);
-    put(row, BOOK_AT_N3, 4, price);
-    put(row, BOOK_AT_TIME, 4, time);
-    add_history(&book, id, BOOK_CMPT, time);
-    row = add(&book, BOOK_KIND_SETTLEMENT);
-    put(row, BOOK_AT_ID, 8, id);
-    put(row, BOOK_AT_M1, 8, (uint64_t)(-shares * (int64_t)price));
-    put(row, BOOK_AT_TIME, 4, time + DUE_AFTER);
-}
-
-/* Four rows: a completed trade and the lot that is left of it. */
-static void add_lot(uint64_t id, int64_t shares, uint32_t price, uint32_t time)
-{
-    uint8_t *row;
-    add_completed(id, shares, price, time);
-    row = add(&book, BOOK_KIND_LOT);
-    put(row, BOOK_AT_ID, 8, id);
-    put(row, BOOK_AT_PARTY, 4, ACCOUNT);
-    set_symbol(row, "ABC");
-    put(row, BOOK_AT_N1, 4, price);
-    put(row, BOOK_AT_M1, 8, (uint64_t)shares);
-    put(row, BOOK_AT_TIME, 4, time);
-}
-
-static void add_summary(int64_t shares)
-{
-    uint8_t *row = add(&book, BOOK_KIND_SUMMARY);
-    put(row, BOOK_AT_PARTY, 4, ACCOUNT);
-    set_symbol(row, "ABC");
-    put(row, BOOK_AT_M1, 8, (uint64_t)shares);
-}
-
-/* The book of the figures, without trade 12: the lots are at places 16 to 24, and places 25 to 27 are free. */
+/* The lots of the figures, and places 25 to 27 free. */
 static void stand_figures(void)
 {
     stand("ABC", 3000);
-    add_lot(10, 100, 2000, 100);
-    add_lot(11, 50, 2500, 200);
-    add_summary(150);
+    add_figures();
     add_free(&book, 3);
 }
 
@@ -247,20 +138,6 @@ static void check_figures(void)
     ordered("a buy closes no positive lot");
 }
 
-/* Makes the lot that was added last one of this account and symbol, and adds its summary. */
-static void give_last_lot(uint32_t account, const char *letters)
-{
-    uint8_t *lot = book.bytes + book.length - RECORD, *trade = lot - 3 * RECORD, *summary;
-    put(trade, BOOK_AT_PARTY, 4, account);
-    put(lot, BOOK_AT_PARTY, 4, account);
-    set_symbol(trade, letters);
-    set_symbol(lot, letters);
-    summary = add(&book, BOOK_KIND_SUMMARY);
-    put(summary, BOOK_AT_PARTY, 4, account);
-    set_symbol(summary, letters);
-    memcpy(summary + BOOK_AT_M1, lot + BOOK_AT_M1, 8);
-}
-
 static void check_lots(void)
 {
     stand("ABC", 3000);
@@ -271,18 +148,7 @@ static void check_lots(void)
     ask("ABC", BOOK_TMS, 0, 120, 0);
     expect_market(12, 0, at_last, 25, 26);
     ordered("lots by time and not by number");
-    stand("ABC", 3000);
-    add_lot(8, 70, 1000, 50);
-    give_last_lot(ACCOUNT + 1, "ABC");
-    add_lot(9, 70, 1000, 50);
-    give_last_lot(ACCOUNT, "ABCD");
-    memcpy(add(&book, BOOK_KIND_ACCOUNT), row_at(&book, AT_ACCOUNT), RECORD);
-    put(row_at(&book, 26), BOOK_AT_PARTY, 4, ACCOUNT + 1);
-    memcpy(add(&book, BOOK_KIND_SECURITY), row_at(&book, AT_SECURITY), RECORD);
-    set_symbol(row_at(&book, 27), "ABCD");
-    add_lot(10, 100, 2000, 100);
-    add_lot(11, 50, 2500, 200);
-    add_summary(150);
+    stand_among_others();
     add_free(&book, 2);
     ask("ABC", BOOK_TMS, 0, 120, 0);
     expect_market(12, 0, at_last, 37, 38);
@@ -380,17 +246,9 @@ static void check_symbols(void)
     not_ordered("an order with a stray byte on the symbol's fence", BOOK_BAD_INPUT);
 }
 
-/* The book of the figures with free places in between: 16, 21, 26 and 28. */
 static void check_places(void)
 {
-    stand("ABC", 3000);
-    add_free(&book, 1);
-    add_lot(10, 100, 2000, 100);
-    add_free(&book, 1);
-    add_lot(11, 50, 2500, 200);
-    add_free(&book, 1);
-    add_summary(150);
-    add_free(&book, 1);
+    stand_with_holes();
     ask("ABC", BOOK_TLS, 0, 120, 2900);
     expect_waiting(12, at_bid, 16, 21, 26);
     ordered("trade, history and request on the lowest free places");
@@ -513,11 +371,7 @@ static void check_order_of_checking(void)
     not_ordered("and no such account", BOOK_ORDER_NO_ACCOUNT);
     put(input.bytes, BOOK_AT_N2, 4, 1);
     not_ordered("and a market order with a bid", BOOK_BAD_INPUT);
-    row_at(&book, AT_ACCOUNT)[BOOK_AT_TYPE] = 3;
-    not_ordered("and the book is not sound", BOOK_UNSOUND);
-    book.length--;
-    not_ordered("and its length is wrong", BOOK_BAD_BOOK);
-    refused("and so is the answer's", BOOK_KIND_ORDER, RECORD - 1, BOOK_BAD_LENGTH);
+    refuses_first(BOOK_KIND_ORDER);
 }
 
 /* One field of a good limit order broken. */
@@ -556,14 +410,9 @@ static void begin_good(void)
 /* The largest book there may be, with its last three places free. */
 static void check_largest(void)
 {
-    size_t place;
-    stand_figures();
-    for (place = 25; place < BOOK_MOST_RECORDS - 3; place++) {
-        uint8_t *row = row_at(&book, place);
-        row[BOOK_AT_KIND] = BOOK_KIND_BROKER;
-        put(row, BOOK_AT_PARTY, 4, 1000 + place);
-    }
-    book.length = BOOK_MOST_RECORDS * RECORD;
+    stand("ABC", 3000);
+    add_figures();
+    fill_up(3);
     ask("ABC", BOOK_TLS, 0, 120, 2900);
     expect_waiting(12, at_bid, BOOK_MOST_RECORDS - 3, BOOK_MOST_RECORDS - 2, BOOK_MOST_RECORDS - 1);
     ordered("an order on a book of 4,096 records");

@@ -32,7 +32,8 @@ void refused(const char *name, uint8_t kind, size_t answer_length, int32_t statu
    the function makes a good book and a good input of one record. */
 void refuses_lengths(uint8_t kind, void (*begin_good)(void), size_t most_inputs, size_t answers_for_each);
 
-/* The samples of orders. */
+/* The samples of orders and of results. */
 void check_orders(void);
+void check_results(void);
 
 #endif

@@ -299,4 +299,5 @@ void check_written(void)
     refuses_lengths(BOOK_KIND_FEED, begin_good_feed, BOOK_MOST_INPUTS, 1);
     check_largest();
     check_orders();
+    check_results();
 }

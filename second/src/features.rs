@@ -44,6 +44,8 @@ pub const WANTED: &[(Call, &[&str])] = &[
             "is not cash",
             "is LIFO over two lots",
             "meets lots of equal time",
+            "takes the last free place",
+            "brings a total to its limit",
         ],
     ),
     (
@@ -156,6 +158,21 @@ pub fn of(
             let lifo = trade.flags & FLAG_LIFO != 0;
             note(lifo && steps.len() >= 2, "is LIFO over two lots");
             note(tied && !steps.is_empty(), "meets lots of equal time");
+            let stays_free = |place: usize| before[place].is_free() && after[place].is_free();
+            note(
+                !(0..before.len()).any(stays_free),
+                "takes the last free place",
+            );
+            let broker = after
+                .iter()
+                .find(|r| r.kind == BROKER && r.party == account.n1);
+            let broker = broker.expect("S3");
+            note(
+                broker.n1 == MAX_BROKER_TRADES
+                    || broker.m1 == MAX_MONEY as u64
+                    || answer.signed_m1().abs() == MAX_MONEY,
+                "brings a total to its limit",
+            );
         }
         Call::Feed => {
             let answer = &answer[0];

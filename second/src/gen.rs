@@ -8,7 +8,7 @@ use crate::calls::{Call, MAX_ENTRIES};
 use crate::mutate;
 use crate::record::*;
 use crate::rng::Rng;
-use std::collections::{BTreeMap, HashMap, HashSet};
+use std::collections::{HashMap, HashSet};
 
 /// What a book shall be like.
 #[derive(Clone, Debug)]
@@ -64,19 +64,28 @@ impl Plan {
     /// A plan that has what this call works on, more often than not.
     pub fn for_call(rng: &mut Rng, call: Call, records: usize) -> Plan {
         let mut plan = Plan::random(rng, records);
-        if rng.chance(40) {
+        if rng.chance(if call == Call::Result { 60 } else { 40 }) {
             match call {
                 Call::Order | Call::Result => {
                     plan.focus = Focus::Lots;
-                    // An order needs a charge, a result a submitted trade; there is room for one.
-                    plan.submitted = if call == Call::Order { 0 } else { 10 };
+                    // An order needs a charge, a result a submitted trade; there is room for one. A
+                    // result adds a row for each lot that it closes.
+                    let (submitted, most) = match call {
+                        Call::Order => (0, 6),
+                        _ => (10, (records / 5).max(8)),
+                    };
+                    plan.submitted = submitted;
                     if rng.chance(80) {
-                        plan.free = (rng.between(3, 6) as usize).min(records - 1);
+                        plan.free = (rng.between(3, most as u64) as usize).min(records - 1);
                     }
                 }
                 Call::Feed => plan.focus = Focus::Requests,
                 Call::Lookup => {}
             }
+        } else if call == Call::Result && rng.chance(60) {
+            plan.submitted = 50;
+            let room = rng.between(3, 8) as usize;
+            plan.free = plan.free.max(room).min(records - 1);
         }
         plan
     }
@@ -151,10 +160,41 @@ struct Maker<'a> {
     customers: Vec<u32>,
     accounts: Vec<Row>,
     securities: Vec<Row>,
+    /// The account whose trades are made; without one, any account's.
+    turn: Option<Row>,
 }
 
 /// A sound book as planned.
 pub fn book_of(rng: &mut Rng, plan: &Plan) -> Vec<u8> {
+    let rows = rows_as_planned(rng, plan, |maker| maker.fill());
+    strew(rng, rows, plan.records)
+}
+
+/// A sound book of 3 to 8 accounts for lists of results: nine of ten have room for all of them, the
+/// others for a few.
+pub fn book_for_results(rng: &mut Rng) -> Vec<u8> {
+    let plan = Plan {
+        records: rng.between(80, 150) as usize,
+        free: 0,
+        limits: rng.chance(10),
+        submitted: 50,
+        focus: Focus::Nothing,
+    };
+    let rows = rows_as_planned(rng, &plan, |maker| maker.fill_for_results());
+    let trades = of_kind(&rows, TRADE);
+    let submitted = trades.iter().filter(|row| row.status == SBMT).count();
+    // A result adds six rows at most and one for each lot that it removes, and opens one at most.
+    let enough = 7 * submitted + of_kind(&rows, LOT).len();
+    let free = if rng.chance(90) {
+        enough
+    } else {
+        rng.index(13)
+    };
+    let records = rows.len() + free;
+    strew(rng, rows, records)
+}
+
+fn rows_as_planned(rng: &mut Rng, plan: &Plan, fill: fn(&mut Maker)) -> Vec<Row> {
     let scale = Scale::random(rng);
     let records = plan.records as u64;
     // Trade numbers lie close together, from low, middling or the highest numbers.
@@ -182,10 +222,10 @@ pub fn book_of(rng: &mut Rng, plan: &Plan) -> Vec<u8> {
         customers: Vec::new(),
         accounts: Vec::new(),
         securities: Vec::new(),
+        turn: None,
     };
-    maker.fill();
-    let rows = maker.rows;
-    strew(rng, rows, plan.records)
+    fill(&mut maker);
+    maker.rows
 }
 
 /// A sound book of this many records.
@@ -258,7 +298,18 @@ impl Maker<'_> {
             return highest;
         }
         loop {
-            let number = self.rng.between(self.lowest_number, highest);
+            let mut number = self.rng.between(self.lowest_number, highest);
+            // Now and then it differs from another number in its upper half alone.
+            if self.rng.chance(4) {
+                let far = self.rng.between(1, 1_000) << 32;
+                let trades = of_kind(&self.rows, TRADE);
+                let other = self.rng.pick_any(&trades).map_or(number, |row| row.id);
+                number = if other > far {
+                    other - far
+                } else {
+                    other + far
+                };
+            }
             if self.trade_numbers.insert(number) {
                 return number;
             }
@@ -322,7 +373,7 @@ impl Maker<'_> {
         for typ in &types {
             for tier in &tiers {
                 for exchange in &exchanges {
-                    if self.rng.chance(93) {
+                    if self.rng.chance(96) {
                         self.bands(*typ, *tier, *exchange, if small { 1 } else { 3 });
                     }
                 }
@@ -355,6 +406,66 @@ impl Maker<'_> {
                 _ => self.lot_history(),
             }
         }
+    }
+
+    /// Several accounts on few securities, each with several submitted trades. Brokers are fewer than
+    /// accounts, so that some accounts share one.
+    fn fill_for_results(&mut self) {
+        let mut tiers = vec![1, 2, 3];
+        let mut exchanges = vec![1, 2, 3, 4];
+        let mut types = vec![TMB, TMS, TLB, TLS, TSL];
+        for list in [&mut tiers, &mut exchanges, &mut types] {
+            self.rng.shuffle(list);
+        }
+        tiers.truncate(self.rng.between(1, 2) as usize);
+        exchanges.truncate(self.rng.between(1, 2) as usize);
+        types.truncate(self.rng.between(1, 4) as usize);
+        // Buys and sells both, so that one trade closes what another opens.
+        let first_buys = buys(types[0]);
+        if types.iter().all(|typ| buys(*typ) == first_buys) {
+            types.push(if first_buys { TMS } else { TMB });
+        }
+        self.types = types.clone();
+
+        for _ in 0..self.rng.between(1, 2) {
+            self.broker();
+        }
+        for _ in 0..self.rng.between(1, 3) {
+            let tier = *self.rng.pick(&tiers);
+            self.customer(tier);
+        }
+        for _ in 0..self.rng.between(3, 8) {
+            self.account();
+        }
+        for _ in 0..self.rng.between(1, 3) {
+            let exchange = *self.rng.pick(&exchanges);
+            self.security(exchange);
+        }
+        // These always find room, whatever comes later.
+        for account in self.accounts.clone() {
+            self.turn = Some(account);
+            self.submitted_trade();
+            self.submitted_trade();
+        }
+        self.tax_rates(2);
+        for typ in &types {
+            for tier in &tiers {
+                for exchange in &exchanges {
+                    if self.rng.chance(96) {
+                        self.bands(*typ, *tier, *exchange, 1);
+                    }
+                }
+            }
+        }
+        while self.room(5) {
+            self.turn = Some(*self.rng.pick(&self.accounts));
+            match self.rng.below(10) {
+                0 => self.pending_trade(),
+                1..=5 => self.submitted_trade(),
+                _ => self.completed_trade(),
+            }
+        }
+        self.shares_near_positions();
     }
 
     fn broker(&mut self) {
@@ -505,8 +616,8 @@ impl Maker<'_> {
         let mut from = if self.rng.chance(90) { 1 } else { 2 };
         for _ in 0..self.rng.between(1, most) {
             let to = match self.rng.below(20) {
-                0..=2 => from + self.rng.between32(0, self.scale.shares_high),
-                3 => from,
+                0 | 1 => from + self.rng.between32(0, self.scale.shares_high),
+                2 => from,
                 _ => MAX_SHARES,
             };
             let to = to.min(MAX_SHARES);
@@ -604,10 +715,10 @@ impl Maker<'_> {
     /// A trade's row but for what its status decides. The first account and the first security are
     /// taken often, so that some positions have many lots and some symbols many requests.
     fn trade(&mut self, typ: u8, status: u8) -> Row {
-        let account = if self.rng.chance(40) {
-            self.accounts[0]
-        } else {
-            *self.rng.pick(&self.accounts)
+        let account = match self.turn {
+            Some(account) => account,
+            None if self.rng.chance(40) => self.accounts[0],
+            None => *self.rng.pick(&self.accounts),
         };
         let security = if self.rng.chance(40) {
             self.securities[0]
@@ -833,7 +944,7 @@ pub fn random_symbol(rng: &mut Rng) -> [u8; 8] {
 
 // Inputs.
 
-fn of_kind(rows: &[Row], kind: u8) -> Vec<Row> {
+pub(crate) fn of_kind(rows: &[Row], kind: u8) -> Vec<Row> {
     rows.iter()
         .filter(|row| row.kind == kind)
         .copied()
@@ -896,7 +1007,7 @@ fn any_time(rng: &mut Rng) -> u32 {
 }
 
 /// A price around those that count for this symbol: lots, bids and the last price.
-fn price_near(rng: &mut Rng, rows: &[Row], symbol: [u8; 8]) -> u32 {
+pub fn price_near(rng: &mut Rng, rows: &[Row], symbol: [u8; 8]) -> u32 {
     let mut prices = Vec::new();
     for row in rows.iter().filter(|row| row.symbol == symbol) {
         match row.kind {
@@ -988,7 +1099,7 @@ pub fn result_input(rng: &mut Rng, rows: &[Row]) -> Row {
         .filter(|row| row.status == SBMT)
         .copied()
         .collect();
-    let trade = if rng.chance(92) && !submitted.is_empty() {
+    let trade = if rng.chance(96) && !submitted.is_empty() {
         rng.pick_any(&submitted)
     } else {
         rng.pick_any(&trades)
@@ -1228,12 +1339,14 @@ pub fn case(rng: &mut Rng, call: Call, most: usize) -> Case {
     case_of(rng, call, records)
 }
 
-/// The same on a book of any size: most are small, one in a hundred has all 4,096 records.
+/// The same on a book of any size: most are small, one in a hundred has all 4,096 records. A result
+/// needs more rows than the others for all that it may do.
 pub fn any_case(rng: &mut Rng, call: Call) -> Case {
+    let smallest = if call == Call::Result { 70 } else { 46 };
     match rng.below(100) {
         0 => case_of(rng, call, MAX_RECORDS),
         1..=5 => case(rng, call, 400),
-        6..=45 => case(rng, call, 64),
+        size if size < smallest => case(rng, call, 64),
         _ => case(rng, call, 24),
     }
 }
@@ -1242,7 +1355,8 @@ fn case_of(rng: &mut Rng, call: Call, records: usize) -> Case {
     let plan = Plan::for_call(rng, call, records);
     let book = book_of(rng, &plan);
     let case = case_on(rng, call, book);
-    if rng.chance(15) {
+    // A result has five edges, the others one or two.
+    if rng.chance(if call == Call::Result { 30 } else { 15 }) {
         return to_the_edge(rng, case);
     }
     case
@@ -1313,7 +1427,12 @@ pub fn to_the_edge(rng: &mut Rng, mut case: Case) -> Case {
             let broker = of_kind(&rows, BROKER, rows[account].n1);
             let after = rows_of(&after);
             let trade = after.iter().find(|r| r.kind == TRADE && r.id == first.id);
-            match rng.below(3) {
+            // No balance is an edge for a trade that is not cash.
+            let edges = match trade.unwrap().flags & FLAG_CASH {
+                0 => 2,
+                _ => 4,
+            };
+            match rng.below(edges) {
                 0 => rows[broker].n1 = MAX_BROKER_TRADES - 1 + past as u32,
                 1 => {
                     let room = trade.unwrap().m1.saturating_sub(past);
@@ -1425,72 +1544,5 @@ fn wrong_answer_length(rng: &mut Rng, length: usize) -> usize {
         3 => length + RECORD,
         4 => length - RECORD,
         _ => 2 * length,
-    }
-}
-
-// Lists of results, for runs in two orders.
-
-/// A list of results for this book: most submitted trades, some of them twice, trades that are not
-/// submitted, numbers that no trade has, and broken records.
-pub fn list_of_results(rng: &mut Rng, rows: &[Row]) -> Vec<Row> {
-    let mut list = Vec::new();
-    for trade in rows.iter().filter(|row| row.kind == TRADE) {
-        let times = match trade.status {
-            SBMT => 1 + u64::from(rng.chance(10)),
-            _ => u64::from(rng.chance(10)),
-        };
-        for _ in 0..times {
-            let mut input = result_input(rng, rows);
-            if rng.chance(60) {
-                input.n1 = rng.between32((trade.n2 / 2).max(1), trade.n2);
-            }
-            input.id = trade.id;
-            list.push(input);
-        }
-    }
-    for _ in 0..rng.below(3) {
-        let mut input = result_input(rng, rows);
-        input.id = unknown_trade(rng, rows);
-        list.push(input);
-    }
-    if rng.chance(30) && !list.is_empty() {
-        let at = rng.index(list.len());
-        let broken = broken_records(rng, Call::Result, &list[at]);
-        list.push(rng.pick(&broken).1);
-    }
-    rng.shuffle(&mut list);
-    list
-}
-
-/// The results of the list (by their places in it) that must keep their order: those that name a
-/// trade of one account in the opening book. One that names no trade is free to move, on its own.
-pub fn groups_by_account(rows: &[Row], list: &[Row]) -> Vec<Vec<usize>> {
-    let mut accounts: BTreeMap<u32, Vec<usize>> = BTreeMap::new();
-    let mut groups = Vec::new();
-    for (at, input) in list.iter().enumerate() {
-        match rows.iter().find(|r| r.kind == TRADE && r.id == input.id) {
-            Some(trade) => accounts.entry(trade.party).or_default().push(at),
-            None => groups.push(vec![at]),
-        }
-    }
-    groups.extend(accounts.into_values());
-    groups
-}
-
-/// A random order of the list that keeps the order within each group.
-pub fn merge(rng: &mut Rng, groups: &[Vec<usize>]) -> Vec<usize> {
-    let mut next = vec![0; groups.len()];
-    let mut order = Vec::new();
-    loop {
-        let waiting: Vec<usize> = (0..groups.len())
-            .filter(|group| next[*group] < groups[*group].len())
-            .collect();
-        match rng.pick_any(&waiting).copied() {
-            Some(group) => {
-                order.push(groups[group][next[group]]);
-                next[group] += 1;
-            }
-            None => return order,
-        }
     }
 }

@@ -11,6 +11,7 @@ pub mod hex;
 pub mod mutate;
 pub mod record;
 pub mod rng;
+pub mod runs;
 pub mod slow;
 pub mod sound;
 pub mod tally;

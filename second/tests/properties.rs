@@ -5,16 +5,22 @@ use second::calls::{self, Call};
 use second::gen::{self, Focus, Plan};
 use second::record::*;
 use second::rng::Rng;
+use second::runs::{self, Run};
 use second::sound;
 use std::collections::{BTreeMap, HashMap};
 
-/// Runs the results in this order: the answer of each, by its number in the list, and the rows.
-fn run_results(book: &[u8], list: &[Row], order: &[usize]) -> (Vec<[u8; RECORD]>, Vec<u8>) {
-    let mut book = book.to_vec();
-    let mut answers = vec![[0; RECORD]; list.len()];
+/// Runs the results in this order: the answer of each, by its place in the list, and the book. An
+/// accepted one leaves a sound book, a refused one the book as found.
+fn run_results(run: &Run, order: &[usize]) -> (Vec<[u8; RECORD]>, Vec<u8>) {
+    let mut book = run.book.clone();
+    let mut answers = vec![[0; RECORD]; run.list.len()];
     for at in order {
+        let before = book.clone();
         let mut answer = [0xAA; RECORD];
-        calls::result_on_sound(&mut book, &list[*at].write(), &mut answer);
+        match calls::result_on_sound(&mut book, &run.list[*at].write(), &mut answer) {
+            0 => assert_eq!(sound::check(&book), Ok(())),
+            _ => assert_eq!(book, before),
+        }
         answers[*at] = answer;
     }
     (answers, book)
@@ -32,29 +38,13 @@ fn the_order_between_accounts_does_not_matter() {
     let mut compared = 0;
     let mut with_two_accounts = 0;
     let mut statuses: BTreeMap<i32, u32> = BTreeMap::new();
-    for _ in 0..4_000 {
-        let records = 40 + rng.index(140);
-        let plan = Plan {
-            records,
-            free: records / 2,
-            limits: rng.chance(10),
-            submitted: 60,
-            focus: Focus::Nothing,
-        };
-        let book = gen::book_of(&mut rng, &plan);
-        let rows = rows_of(&book);
-        let list = gen::list_of_results(&mut rng, &rows);
-        let groups = gen::groups_by_account(&rows, &list);
-        let first = gen::merge(&mut rng, &groups);
-        let second = gen::merge(&mut rng, &groups);
-        let (answers1, book1) = run_results(&book, &list, &first);
-        let (answers2, book2) = run_results(&book, &list, &second);
-        let out_of_room = |answers: &[[u8; RECORD]]| {
-            answers
-                .iter()
-                .any(|answer| matches!(status_of(answer), -104 | -105))
-        };
-        if out_of_room(&answers1) || out_of_room(&answers2) {
+    for _ in 0..12_000 {
+        let run = runs::any_run(&mut rng);
+        let as_listed: Vec<usize> = (0..run.list.len()).collect();
+        let (answers1, book1) = run_results(&run, &as_listed);
+        let (answers2, book2) = run_results(&run, &run.order);
+        let mut all_answers = answers1.iter().chain(&answers2);
+        if all_answers.any(|answer| runs::hinders(status_of(answer))) {
             continue;
         }
         compared += 1;
@@ -71,15 +61,10 @@ fn the_order_between_accounts_does_not_matter() {
         with_two_accounts += u32::from(accounts.len() > 1);
 
         assert_eq!(answers1, answers2);
-        let (mut rows1, mut rows2) = (rows_of(&book1), rows_of(&book2));
-        assert_eq!(sound::check(&book1), Ok(()));
-        assert_eq!(sound::check(&book2), Ok(()));
-        rows1.sort();
-        rows2.sort();
-        assert_eq!(rows1, rows2);
+        assert_eq!(runs::sorted_records(&book1), runs::sorted_records(&book2));
     }
-    assert!(compared > 2_000, "{compared}");
-    assert!(with_two_accounts > 1_000, "{with_two_accounts}");
+    assert!(compared >= 10_000, "{compared}");
+    assert!(with_two_accounts > 5_000, "{with_two_accounts}");
     for status in [0, -103, -811, -812, -831, -841] {
         assert!(statuses.contains_key(&status), "{statuses:?}");
     }

@@ -14,12 +14,13 @@ use Rattle.laws.specs.Tests.{and-left, and-right}
 use Rattle.record.specs.Bytes.{Bytes}
 use Rattle.record.specs.Grid.{decode}
 use Rattle.record.specs.declared.row.Row.{Row}
-use Rattle.rules.specs.Rules.{feedInput, lookupInput, orderInput}
+use Rattle.rules.specs.Rules.{feedInput, lookupInput, orderInput, resultInput}
 use Rattle.model.specs.Call.{Promise, Reply, isDone, lookupCall, mostInputs, replied, shell}
 use Rattle.model.specs.Feed.{feed}
 use Rattle.model.specs.Lookup.{lookup}
 use Rattle.model.specs.Order.{order}
 use Rattle.model.specs.Plan.{Outcome, pick, refused}
+use Rattle.model.specs.Result.{result}
 use Rattle.model.specs.Rows.{mostRecords, recordSize, rows, wholeRecords}
 use Rattle.model.specs.Sound.{sound}
 use Rattle.model.specs.Status.{number}
@@ -225,3 +226,7 @@ one-long n m e = (
 -- ---- order
 abbrev pub orderDecided : List ℕ → List ℕ → Outcome
 orderDecided b input = decided (orderInput (decode input)) (λ rs. order rs (decode input)) b
+
+-- ---- result
+abbrev pub resultDecided : List ℕ → List ℕ → Outcome
+resultDecided b input = decided (resultInput (decode input)) (λ rs. result rs (decode input)) b

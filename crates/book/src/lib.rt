@@ -4,15 +4,16 @@ ghost use mathlib.Core.Path.{_≡_};
 ghost use mathlib.Core.Bool.{true};
 ghost use Prim.Native.Nat.{_/_, _<_};
 ghost use lib.ListN.{length};
-ghost use Rattle.model.specs.Call.{Promise, feedCall, isDone, lookupCall, orderCall};
+ghost use Rattle.model.specs.Call.{Promise, feedCall, isDone, lookupCall, orderCall, resultCall};
 ghost use Rattle.model.specs.Rows.{mostRecords, wholeRecords};
 ghost use Rattle.reply.specs.Left.{answerLeft, bookLeft};
 ghost use Rattle.book.specs.Shell.{Empty, Opened, feedDecided, feedLengths, lookupDecided};
-ghost use Rattle.book.specs.Shell.{lookupLengths, oneLengths, opening, orderDecided};
+ghost use Rattle.book.specs.Shell.{lookupLengths, oneLengths, opening, orderDecided, resultDecided};
 use feed::feed;
 use inputs::all_feed;
 use inputs::all_lookup;
 use inputs::is_order;
+use inputs::is_result;
 use lookup::lookup;
 use model::Status;
 use order::order;
@@ -21,6 +22,7 @@ use record::row::Row;
 use reply::code;
 use reply::done;
 use reply::finish;
+use result::result;
 use sound::whole::Most;
 use sound::whole::sound_by;
 use sound::whole::whole;
@@ -177,6 +179,39 @@ pub extern "C" fn book_order(book: &mut [u8], input: &[u8], answer: &mut [u8]) -
 {
     if one_lengths(input.len(), answer.len()) {
         let s = order_on(book, input, answer);
+        return finish(answer, s);
+    }
+    code(Status::BadLength)
+}
+
+fn result_on(book: &mut [u8], input: &[u8], answer: &mut [u8]) -> Status
+    requires { ⌜ oneLengths (length (now input)) (length (now answer)) ≡ true ⌝ }
+    ensures { λ r. ⌜ r ≡ resultDecided (now (book .entry)) (now (input .entry)) .status ⌝ }
+    ensures { λ _.
+        ⌜ now (book .exit) ≡ bookLeft (resultDecided (now (book .entry)) (now (input .entry))) (now (book .entry)) ⌝ }
+    ensures { λ _.
+        ⌜ now (answer .exit)
+        ≡ answerLeft (resultDecided (now (book .entry)) (now (input .entry))) (now (answer .entry)) ⌝ }
+{
+    let none = records(book);
+    let mut keys = [none; Slots::ALL];
+    let mut steady = [none; Slots::ALL];
+    let s = opened(book, is_result(input), &mut keys, &mut steady);
+    if done(s) {
+        return result(book, &keys, &steady, Row::read(input), answer);
+    }
+    s
+}
+
+// Trade-Result.
+#[no_mangle]
+pub extern "C" fn book_result(book: &mut [u8], input: &[u8], answer: &mut [u8]) -> i32
+    ensures { λ r.
+        ⌜ Promise (resultCall (now (book .entry)) (now (input .entry)) (now (answer .entry))) r (now (book .exit))
+        (now (answer .exit)) ⌝ }
+{
+    if one_lengths(input.len(), answer.len()) {
+        let s = result_on(book, input, answer);
         return finish(answer, s);
     }
     code(Status::BadLength)

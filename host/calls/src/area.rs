@@ -35,13 +35,21 @@ impl Area {
         &mut self.block[self.before.len()..end]
     }
 
+    /// What is wrong around it, whatever it shall hold.
+    pub fn fault_around(&self, name: &str) -> Option<String> {
+        let good = self.block.starts_with(&self.before) && self.block.ends_with(&self.after);
+        (!good).then(|| format!("a byte before or after the {name} was written"))
+    }
+
     /// What is wrong with it, if it shall hold these bytes.
     pub fn fault(&self, name: &str, expected: &[u8]) -> Option<String> {
-        let (start, end) = (self.before.len(), self.end());
-        if self.block[..start] != self.before || self.block[end..] != self.after {
-            return Some(format!("a byte before or after the {name} was written"));
+        if let Some(fault) = self.fault_around(name) {
+            return Some(fault);
         }
-        let found = &self.block[start..end];
+        let found = &self.block[self.before.len()..self.end()];
+        if found == expected {
+            return None;
+        }
         let wrong: Vec<usize> = (0..found.len())
             .filter(|at| found[*at] != expected[*at])
             .collect();

@@ -2,32 +2,27 @@
 
 use second::calls::Call;
 
-extern "C" {
-    fn book_order(
-        book: *mut u8,
-        book_len: usize,
-        input: *const u8,
-        input_len: usize,
-        answer: *mut u8,
-        answer_len: usize,
-    ) -> i32;
-    fn book_feed(
-        book: *mut u8,
-        book_len: usize,
-        input: *const u8,
-        input_len: usize,
-        answer: *mut u8,
-        answer_len: usize,
-    ) -> i32;
-    fn book_lookup(
-        book: *const u8,
-        book_len: usize,
-        input: *const u8,
-        input_len: usize,
-        answer: *mut u8,
-        answer_len: usize,
-    ) -> i32;
+macro_rules! exported {
+    ($($name:ident on $book:ty),*) => {
+        extern "C" {
+            $(fn $name(
+                book: $book,
+                book_len: usize,
+                input: *const u8,
+                input_len: usize,
+                answer: *mut u8,
+                answer_len: usize,
+            ) -> i32;)*
+        }
+    };
 }
+
+exported!(
+    book_order on *mut u8,
+    book_result on *mut u8,
+    book_feed on *mut u8,
+    book_lookup on *const u8
+);
 
 /// A call on a book, an input and an answer area.
 pub type Run = fn(&mut [u8], &[u8], &mut [u8]) -> i32;
@@ -47,4 +42,5 @@ pub const CALLS: &[(Call, Run)] = &[
     (Call::Lookup, on_slices!(book_lookup)),
     (Call::Feed, on_slices!(book_feed)),
     (Call::Order, on_slices!(book_order)),
+    (Call::Result, on_slices!(book_result)),
 ];

@@ -1,29 +1,38 @@
-//! `calls [--seed S] [--cases N] [--seconds T] [--only NAME N]`: holds the library to the second program: N random
-//! cases of each call (else 20,000) and one sequence of calls on one book for every ten of them. With --seconds
-//! it goes on for so long instead, and with 0 until ten have failed. With --only it runs one case of a call, or one
-//! `sequence`, of the seed again. Prints how often each status came; its last line is 'N passed, M failed'.
+//! `calls [--seed S] [--cases N] [--runs N] [--seconds T] [--only NAME N]`: holds the library to the second program: N
+//! random cases of each call (else 50,000) and one sequence of calls on one book for every ten of them; then holds it
+//! to itself: runs of results in two orders, until N (else 10,000) have been compared. With --seconds all of this goes
+//! on for so long instead, and with 0 until ten have failed. With --only it runs one case of a call, one `sequence`, or
+//! one `run` of the seed again. After every call that is accepted the book is sound, after every other it is as before.
+//! Prints how often each status came; its last line is 'N passed, M failed'.
 
 mod area;
 mod library;
+mod runs;
 
 use area::Area;
 use library::{Run, CALLS};
+use runs::Runs;
 use second::calls::Call;
 use second::gen::{self, Case, Plan};
-use second::record::MAX_RECORDS;
+use second::record::{MAX_RECORDS, RECORD};
 use second::rng::Rng;
+use second::sound;
 use std::collections::BTreeMap;
 use std::time::{Duration, Instant};
 
-const CASES: u64 = 20_000;
+const CASES: u64 = 50_000;
 /// There is one sequence for so many cases of each call, and it has so many steps.
 const CASES_PER_SEQUENCE: u64 = 10;
 const STEPS: usize = 30;
+/// So many runs are compared, and with --seconds there is one run for so many cases of each call.
+const RUNS: u64 = 10_000;
+const CASES_PER_RUN: u64 = 5;
 const MOST_SAID: u64 = 10;
 /// "No function takes more than 512 KiB of stack with all that it calls."
 const STACK: usize = 512 * 1024;
-/// The kind that stands for a sequence, where a source of random numbers is for one kind of input records.
+/// The kinds that stand for a sequence and a run, where a source of random numbers is for one kind of input records.
 const SEQUENCE: u8 = 0;
+const RUN: u8 = 1;
 
 #[derive(Default)]
 struct Tally {
@@ -33,6 +42,35 @@ struct Tally {
     /// How often a call was expected to give a status, on its own and in sequences.
     alone: BTreeMap<(Call, i32), u64>,
     in_sequences: BTreeMap<(Call, i32), u64>,
+    /// How many cases were to be accepted on a book of all records that there may be.
+    on_largest: BTreeMap<Call, u64>,
+    runs: Runs,
+    kept: Kept,
+}
+
+/// How many accepted calls left a sound book, and how many refused ones the book as before.
+#[derive(Default)]
+struct Kept {
+    sound: u64,
+    as_before: u64,
+}
+
+impl Kept {
+    /// "An accepted call leaves a sound book"; "a refusal leaves the book as found".
+    fn fault(&mut self, status: i32, before: &[u8], after: &[u8]) -> Option<String> {
+        if status != 0 && before != after {
+            return Some(format!("status {status}, yet the book is another"));
+        }
+        if status != 0 {
+            self.as_before += 1;
+            return None;
+        }
+        if let Err(broken) = sound::check(after) {
+            return Some(format!("accepted, and the book breaks {broken:?}"));
+        }
+        self.sound += 1;
+        None
+    }
 }
 
 impl Tally {
@@ -51,6 +89,7 @@ impl Tally {
 /// Runs the library on the book where it lies and on areas of its own for the rest, and the second program on copies.
 /// Gives the status that is expected and what is wrong.
 fn compare(
+    kept: &mut Kept,
     rng: &mut Rng,
     run: impl Fn(&mut [u8], &[u8], &mut [u8]) -> i32,
     case: &Case,
@@ -68,7 +107,8 @@ fn compare(
         .then(|| format!("status {status}, expected {expected}"))
         .or_else(|| book.fault("book", &expected_book))
         .or_else(|| input.fault("input", &case.input))
-        .or_else(|| answer.fault("answer", &expected_answer));
+        .or_else(|| answer.fault("answer", &expected_answer))
+        .or_else(|| kept.fault(status, &case.book, book.bytes()));
     (expected, fault)
 }
 
@@ -76,8 +116,11 @@ fn run_case(tally: &mut Tally, seed: u64, call: Call, run: Run, number: u64) {
     let mut rng = Rng::of(seed, call.kind(), number);
     let case = gen::any_case(&mut rng, call);
     let mut book = Area::new(&mut rng, &case.book);
-    let (status, fault) = compare(&mut rng, run, &case, &mut book);
+    let (status, fault) = compare(&mut tally.kept, &mut rng, run, &case, &mut book);
     *tally.alone.entry((call, status)).or_default() += 1;
+    if status == 0 && case.book.len() == MAX_RECORDS * RECORD {
+        *tally.on_largest.entry(call).or_default() += 1;
+    }
     let name = || format!("seed {seed}, {} case {number}", call.name());
     tally.count(name, fault);
 }
@@ -89,22 +132,23 @@ fn run_sequence(tally: &mut Tally, seed: u64, number: u64) {
     let mut rng = Rng::of(seed, SEQUENCE, number);
     let records = match rng.below(200) {
         0 => MAX_RECORDS,
-        _ => rng.between(18, 90) as usize,
+        _ => rng.between(18, 120) as usize,
     };
     let (wanted, _) = *rng.pick(CALLS);
     let mut plan = Plan::for_call(&mut rng, wanted, records);
     // Each call takes places up.
-    plan.free = plan.free.max(rng.index(records / 2));
+    let room = rng.between(records as u64 / 8, records as u64 / 2);
+    plan.free = plan.free.max(room as usize);
     let start = gen::book_of(&mut rng, &plan);
     let mut book = Area::new(&mut rng, &start);
     for step in 1..=STEPS {
         let (call, run) = *rng.pick(CALLS);
         let case = gen::case_on(&mut rng, call, book.bytes().to_vec());
         let (status, fault) = if case.book == book.bytes() {
-            compare(&mut rng, run, &case, &mut book)
+            compare(&mut tally.kept, &mut rng, run, &case, &mut book)
         } else {
             let mut spoilt = Area::new(&mut rng, &case.book);
-            compare(&mut rng, run, &case, &mut spoilt)
+            compare(&mut tally.kept, &mut rng, run, &case, &mut spoilt)
         };
         *tally.in_sequences.entry((call, status)).or_default() += 1;
         let failed = fault.is_some();
@@ -149,14 +193,14 @@ fn run_on_small_stacks(tally: &mut Tally, seed: u64) {
             })
         };
         let mut book = Area::new(&mut rng, &case.book);
-        let (_, fault) = compare(&mut rng, on_thread, &case, &mut book);
+        let (_, fault) = compare(&mut tally.kept, &mut rng, on_thread, &case, &mut book);
         tally.count(name, fault);
     }
 }
 
 /// Prints how often each status was expected, and counts a failure for each that never was of a case on its own, and
-/// for each call that no sequence has accepted.
-fn report(tally: &mut Tally) {
+/// for each call that no sequence or no largest book has accepted.
+fn report_cases(tally: &mut Tally) {
     println!("{} sequences of {STEPS} calls", tally.sequences);
     for (call, _) in CALLS {
         for (counts, where_from) in [(&tally.alone, ""), (&tally.in_sequences, " in sequences")] {
@@ -168,6 +212,8 @@ fn report(tally: &mut Tally) {
                 .collect();
             println!("{}{where_from}: {}", call.name(), words.join(", "));
         }
+        let largest = tally.on_largest.get(call).unwrap_or(&0);
+        println!("{} on {MAX_RECORDS} records: {largest} of 0", call.name());
         for status in call.statuses() {
             if !tally.alone.contains_key(&(*call, *status)) {
                 let fault = Some(format!("no case has status {status}"));
@@ -178,12 +224,17 @@ fn report(tally: &mut Tally) {
             let fault = Some("no sequence has one that is accepted".to_string());
             tally.count(|| call.name().to_string(), fault);
         }
+        if !tally.on_largest.contains_key(call) {
+            let fault = Some(format!("none on {MAX_RECORDS} records is accepted"));
+            tally.count(|| call.name().to_string(), fault);
+        }
     }
 }
 
 struct Asked {
     seed: u64,
     cases: u64,
+    runs: u64,
     seconds: Option<u64>,
     only: Option<(String, u64)>,
 }
@@ -192,6 +243,7 @@ fn asked() -> Option<Asked> {
     let mut asked = Asked {
         seed: 1,
         cases: CASES,
+        runs: RUNS,
         seconds: None,
         only: None,
     };
@@ -201,12 +253,14 @@ fn asked() -> Option<Asked> {
         match word.as_str() {
             "--seed" => asked.seed = number()?,
             "--cases" => asked.cases = number()?,
+            "--runs" => asked.runs = number()?,
             "--seconds" => asked.seconds = Some(number()?),
             "--only" => asked.only = Some((words.next()?, words.next()?.parse().ok()?)),
             _ => return None,
         }
     }
-    Some(asked)
+    // Nothing at all would be no failure.
+    (asked.cases > 0 || asked.runs > 0).then_some(asked)
 }
 
 fn run_one(tally: &mut Tally, seed: u64, name: &str, number: u64) -> Option<()> {
@@ -214,11 +268,16 @@ fn run_one(tally: &mut Tally, seed: u64, name: &str, number: u64) -> Option<()> 
         run_sequence(tally, seed, number);
         return Some(());
     }
+    if name == "run" {
+        runs::run(tally, seed, number);
+        return Some(());
+    }
     let (call, run) = CALLS.iter().find(|(call, _)| call.name() == name)?;
     run_case(tally, seed, *call, *run, number);
     Some(())
 }
 
+/// All that is asked for: the cases and sequences, then the runs; with --seconds, by turns.
 fn run_all(tally: &mut Tally, asked: &Asked) {
     let began = Instant::now();
     let goes_on = |number: u64, failed: u64| match asked.seconds {
@@ -226,21 +285,39 @@ fn run_all(tally: &mut Tally, asked: &Asked) {
         Some(0) => failed < MOST_SAID,
         Some(seconds) => began.elapsed() < Duration::from_secs(seconds),
     };
-    run_on_small_stacks(tally, asked.seed);
+    let by_turns = asked.seconds.is_some();
     let mut number = 1;
     while goes_on(number, tally.failed) {
+        if number == 1 {
+            run_on_small_stacks(tally, asked.seed);
+        }
         for (call, run) in CALLS {
             run_case(tally, asked.seed, *call, *run, number);
         }
         if number % CASES_PER_SEQUENCE == 0 {
             run_sequence(tally, asked.seed, number / CASES_PER_SEQUENCE);
         }
+        if by_turns && number % CASES_PER_RUN == 0 {
+            runs::run(tally, asked.seed, number / CASES_PER_RUN);
+        }
         if number % 1_000_000 == 0 {
             println!("{number} cases of each call, {} failed", tally.failed);
         }
         number += 1;
     }
-    report(tally);
+    if number > 1 {
+        report_cases(tally);
+    }
+    if !by_turns {
+        runs::run_until(tally, asked.seed, asked.runs);
+    }
+    if by_turns || asked.runs > 0 {
+        runs::report(tally);
+    }
+    println!(
+        "{} accepted calls left a sound book, {} refused ones left the book as before",
+        tally.kept.sound, tally.kept.as_before
+    );
 }
 
 fn main() {
@@ -254,7 +331,7 @@ fn main() {
     });
     if done.is_none() {
         eprintln!(
-            "usage: calls [--seed S] [--cases N] [--seconds T] [--only CALL-or-'sequence' N]"
+            "usage: calls [--seed S] [--cases N] [--runs N] [--seconds T] [--only CALL-or-'sequence'-or-'run' N]"
         );
         std::process::exit(2);
     }

@@ -1,0 +1,174 @@
+/* See figures.h. */
+#include "figures.h"
+
+#include <string.h>
+
+const uint64_t MOST_NUMBER = 999999999999999u;
+
+size_t band_at(uint8_t type)
+{
+    return AT_BANDS + type - BOOK_TMB;
+}
+
+size_t charge_at(uint8_t type)
+{
+    return AT_CHARGES + type - BOOK_TMB;
+}
+
+uint32_t charge_of(uint8_t type)
+{
+    return 250u * type;
+}
+
+void add_rate(uint32_t customer, uint32_t party, uint32_t rate)
+{
+    uint8_t *row = add(&book, BOOK_KIND_TAX_RATE);
+    put(row, BOOK_AT_PARTY, 4, party);
+    put(row, BOOK_AT_N1, 4, rate);
+    row = add(&book, BOOK_KIND_CUSTOMER_RATE);
+    put(row, BOOK_AT_PARTY, 4, customer);
+    put(row, BOOK_AT_N1, 4, party);
+}
+
+void stand(const char *letters, uint32_t last_price)
+{
+    uint8_t *row, type;
+    begin();
+    row = add(&book, BOOK_KIND_BROKER);
+    put(row, BOOK_AT_PARTY, 4, BROKER);
+    put(row, BOOK_AT_N1, 4, BROKER_TRADES);
+    put(row, BOOK_AT_M1, 8, BROKER_TOTAL);
+    row = add(&book, BOOK_KIND_CUSTOMER);
+    put(row, BOOK_AT_PARTY, 4, CUSTOMER);
+    row[BOOK_AT_TYPE] = TIER;
+    add_rate(CUSTOMER, TAX_RATE, 20000);
+    row = add(&book, BOOK_KIND_ACCOUNT);
+    put(row, BOOK_AT_PARTY, 4, ACCOUNT);
+    put(row, BOOK_AT_N1, 4, BROKER);
+    put(row, BOOK_AT_N2, 4, CUSTOMER);
+    row[BOOK_AT_TYPE] = 1;
+    put(row, BOOK_AT_M1, 8, BALANCE);
+    row = add(&book, BOOK_KIND_SECURITY);
+    set_symbol(row, letters);
+    row[BOOK_AT_TYPE] = EXCHANGE;
+    put(row, BOOK_AT_N1, 4, last_price);
+    for (type = BOOK_TMB; type <= BOOK_TSL; type++) {
+        row = add(&book, BOOK_KIND_BAND);
+        row[BOOK_AT_TYPE] = type;
+        row[BOOK_AT_STATUS] = TIER;
+        row[BOOK_AT_FLAGS] = EXCHANGE;
+        put(row, BOOK_AT_N1, 4, 1);
+        put(row, BOOK_AT_N2, 4, 1000);
+        put(row, BOOK_AT_N3, 4, RATE);
+    }
+    for (type = BOOK_TMB; type <= BOOK_TSL; type++) {
+        row = add(&book, BOOK_KIND_CHARGE);
+        row[BOOK_AT_TYPE] = type;
+        row[BOOK_AT_STATUS] = TIER;
+        put(row, BOOK_AT_N1, 4, charge_of(type));
+    }
+}
+
+void add_completed(uint64_t id, int64_t shares, uint32_t price, uint32_t time)
+{
+    uint8_t *row = add(&book, BOOK_KIND_TRADE);
+    put(row, BOOK_AT_ID, 8, id);
+    row[BOOK_AT_TYPE] = shares > 0 ? BOOK_TMB : BOOK_TMS;
+    row[BOOK_AT_STATUS] = BOOK_CMPT;
+    put(row, BOOK_AT_PARTY, 4, ACCOUNT);
+    set_symbol(row, "ABC");
+    put(row, BOOK_AT_N1, 4, (uint64_t)(shares > 0 ? shares : -shares));
+    put(row, BOOK_AT_N2, 4, price);
+    put(row, BOOK_AT_N3, 4, price);
+    put(row, BOOK_AT_TIME, 4, time);
+    add_history(&book, id, BOOK_CMPT, time);
+    row = add(&book, BOOK_KIND_SETTLEMENT);
+    put(row, BOOK_AT_ID, 8, id);
+    put(row, BOOK_AT_M1, 8, (uint64_t)(-shares * (int64_t)price));
+    put(row, BOOK_AT_TIME, 4, time + DUE_AFTER);
+}
+
+void add_lot(uint64_t id, int64_t shares, uint32_t price, uint32_t time)
+{
+    uint8_t *row;
+    add_completed(id, shares, price, time);
+    row = add(&book, BOOK_KIND_LOT);
+    put(row, BOOK_AT_ID, 8, id);
+    put(row, BOOK_AT_PARTY, 4, ACCOUNT);
+    set_symbol(row, "ABC");
+    put(row, BOOK_AT_N1, 4, price);
+    put(row, BOOK_AT_M1, 8, (uint64_t)shares);
+    put(row, BOOK_AT_TIME, 4, time);
+}
+
+void add_summary(int64_t shares)
+{
+    uint8_t *row = add(&book, BOOK_KIND_SUMMARY);
+    put(row, BOOK_AT_PARTY, 4, ACCOUNT);
+    set_symbol(row, "ABC");
+    put(row, BOOK_AT_M1, 8, (uint64_t)shares);
+}
+
+void add_figures(void)
+{
+    add_lot(10, 100, 2000, 100);
+    add_lot(11, 50, 2500, 200);
+    add_summary(150);
+}
+
+void stand_with_holes(void)
+{
+    stand("ABC", 3000);
+    add_free(&book, 1);
+    add_lot(10, 100, 2000, 100);
+    add_free(&book, 1);
+    add_lot(11, 50, 2500, 200);
+    add_free(&book, 1);
+    add_summary(150);
+    add_free(&book, 1);
+}
+
+/* Makes the lot that was added last one of this account and symbol, and adds its summary. */
+static void give_last_lot(uint32_t account, const char *letters)
+{
+    uint8_t *lot = book.bytes + book.length - RECORD, *trade = lot - 3 * RECORD, *summary;
+    put(trade, BOOK_AT_PARTY, 4, account);
+    put(lot, BOOK_AT_PARTY, 4, account);
+    set_symbol(trade, letters);
+    set_symbol(lot, letters);
+    summary = add(&book, BOOK_KIND_SUMMARY);
+    put(summary, BOOK_AT_PARTY, 4, account);
+    set_symbol(summary, letters);
+    memcpy(summary + BOOK_AT_M1, lot + BOOK_AT_M1, 8);
+}
+
+void stand_among_others(void)
+{
+    stand("ABC", 3000);
+    add_lot(8, 70, 1000, 50);
+    give_last_lot(ACCOUNT + 1, "ABC");
+    add_lot(9, 70, 1000, 50);
+    give_last_lot(ACCOUNT, "ABCD");
+    memcpy(add(&book, BOOK_KIND_ACCOUNT), row_at(&book, AT_ACCOUNT), RECORD);
+    put(row_at(&book, 26), BOOK_AT_PARTY, 4, ACCOUNT + 1);
+    memcpy(add(&book, BOOK_KIND_SECURITY), row_at(&book, AT_SECURITY), RECORD);
+    set_symbol(row_at(&book, 27), "ABCD");
+    add_figures();
+}
+
+void fill_up(size_t left)
+{
+    uint32_t party = 1000;
+    while (book.length < (BOOK_MOST_RECORDS - left) * RECORD)
+        put(add(&book, BOOK_KIND_BROKER), BOOK_AT_PARTY, 4, party++);
+    add_free(&book, left);
+}
+
+void refuses_first(uint8_t kind)
+{
+    row_at(&book, AT_ACCOUNT)[BOOK_AT_TYPE] = 3;
+    refused("and the book is not sound", kind, RECORD, BOOK_UNSOUND);
+    book.length--;
+    refused("and its length is wrong", kind, RECORD, BOOK_BAD_BOOK);
+    refused("and so is the answer's", kind, RECORD - 1, BOOK_BAD_LENGTH);
+}

@@ -1,0 +1,49 @@
+/* The account of the page's figures and its lots: what orders and results are tried on. */
+#ifndef FIGURES_H
+#define FIGURES_H
+
+#include "samples.h"
+
+enum { ACCOUNT = 1, BROKER = 21, CUSTOMER = 31, TAX_RATE = 41, TIER = 2, EXCHANGE = 3, RATE = 50, TIME = 300 };
+enum { BALANCE = 1000000, BROKER_TRADES = 7, BROKER_TOTAL = 9000, DUE_AFTER = 172800 };
+extern const uint64_t MOST_NUMBER;
+
+/* The places of what stands in every book here. There is a band and a charge for each trade type, beginning here. */
+enum { AT_BROKER = 0, AT_TAX_RATE = 2, AT_ACCOUNT = 4, AT_SECURITY = 5, AT_BANDS = 6, AT_CHARGES = 11, STANDING = 16 };
+size_t band_at(uint8_t type);
+size_t charge_at(uint8_t type);
+
+/* Each type has its own; that of TMS is the 500 of the figures. */
+uint32_t charge_of(uint8_t type);
+
+/* Two rows: a tax rate, and the customer's link to it. */
+void add_rate(uint32_t customer, uint32_t party, uint32_t rate);
+
+/* The account of the figures, without a trade. */
+void stand(const char *letters, uint32_t last_price);
+
+/* Three rows: a completed trade that is not cash, its history and its settlement. */
+void add_completed(uint64_t id, int64_t shares, uint32_t price, uint32_t time);
+
+/* Four rows: a completed trade and the lot that is left of it. */
+void add_lot(uint64_t id, int64_t shares, uint32_t price, uint32_t time);
+
+void add_summary(int64_t shares);
+
+/* Nine rows: the lots of the figures and their summary. */
+void add_figures(void);
+
+/* The same with free places in between: 16, 21, 26 and 28. */
+void stand_with_holes(void);
+
+/* The lots of the figures at places 28 to 36, behind one of account 2 and one of another symbol. */
+void stand_among_others(void);
+
+/* Adds brokers until the book has all records that there may be, but for so many free places at its end. */
+void fill_up(size_t left);
+
+/* Has the call refuse the sample, whatever else is wrong with it: for a book that is not sound, then for the book's
+   length, then for the answer's. */
+void refuses_first(uint8_t kind);
+
+#endif
