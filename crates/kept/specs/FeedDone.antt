@@ -1,0 +1,86 @@
+-- A feed that is done: what it leaves, and that its steps lead there. A feed leaves as many places as there were.
+-- Assumes nothing.
+use mathlib.Core.Path.{_≡_, refl, _∙_}
+use mathlib.Core.Bool.{Bool, true, false, false≢true}
+use mathlib.Core.List.{List, [], _∷_}
+use Prim.Native.Nat.{ℕ, _≤_}
+use native.Mathlib.Omega.{arith}
+use lib.Dec.{leb}
+use lib.ListN.{length, length-map}
+use borrow.Author.Tests.{leb-true}
+use Rattle.laws.specs.Change.{put}
+use Rattle.laws.specs.Search.{every, run}
+use Rattle.record.specs.declared.row.Row.{Row}
+use Rattle.rules.specs.Rules.{feedInput}
+use Rattle.model.specs.Call.{isDone}
+use Rattle.model.specs.Feed.{Fed, applied, feed, submit, submits, swept, traded, volumesFit}
+use Rattle.model.specs.Names.{aRequest, aSecurity}
+use Rattle.model.specs.Plan.{accepted, limited, pick, refused, room}
+use Rattle.model.specs.Rows.{found, nothing, sameRow, there}
+use Rattle.model.specs.Sound.{sound}
+use Rattle.model.specs.SoundMeans.{means-sound}
+use Rattle.model.specs.declared.Status.the-variants.{FeedNoSecurity, NoRoom, OverLimit}
+use Rattle.kept.specs.Bytes.{put-length}
+use Rattle.kept.specs.FeedSteps.{Leads, entries-lead}
+use Rattle.kept.specs.ResultBase.{room-is}
+use Rattle.kept.specs.ResultFresh.{one-key}
+
+-- the rows when all entries are applied
+abbrev pub fed : List Row → List Row → Fed
+fed rs es = run applied (record { rows = rs; trades = 0 }) es
+
+pub record Done (rs es : List Row) : Type 0 where
+  pub known : every (λ (e : Row). there (aSecurity (e .symbol)) rs) es ≡ true
+  pub volumes : volumesFit (fed rs es .rows) es ≡ true
+  pub space : leb (fed rs es .trades) (room rs) ≡ true
+  pub rows : feed rs es .rows ≡ swept (fed rs es .rows)
+
+pub feed-done : (rs es : List Row) → isDone (feed rs es .status) ≡ true → Done rs es
+unfolding feed limited
+feed-done rs es d =
+    go (every (λ (e : Row). there (aSecurity (e .symbol)) rs) es) (volumesFit (fed rs es .rows) es)
+    (leb (fed rs es .trades) (room rs)) refl refl refl
+  where
+    go : (a b c : Bool) → every (λ (e : Row). there (aSecurity (e .symbol)) rs) es ≡ a
+        → volumesFit (fed rs es .rows) es ≡ b → leb (fed rs es .trades) (room rs) ≡ c → Done rs es
+    go true true true k v s = record { known = k; volumes = v; space = s; rows = rw (k, v, s) }
+    go true true false k v s = absurd (false≢true (rw (k, v, s) at d))
+    go true false c k v s = absurd (false≢true (rw (k, v) at d))
+    go false b c k v s = absurd (false≢true (rw k at d))
+
+pub feed-leads : (rs es : List Row) → sound rs ≡ true → every feedInput es ≡ true → Done rs es
+    → Leads rs (fed rs es .rows)
+feed-leads rs es good inputs d I k i =
+    let s = leb-true (fed rs es .trades) (room rs) (d .space) in
+    let r = room-is rs good in
+    entries-lead I k (record { rows = rs; trades = 0 }) es inputs (d .known) (d .volumes) (omega arith)
+    (λ j. one-key rs (means-sound rs .shows good .s2) (aRequest j) (λ q. omega arith)) i
+
+-- ---- places
+length-submits : (e : Row) (rs ts : List Row) → length (run (submit e) rs ts) ≡ length rs
+unfolding run
+length-submits e rs [] = refl
+length-submits e rs (t ∷ ts) =
+    length-submits e (submit e rs t) ts ∙ put-length _ _ _ ∙ put-length nothing _ rs
+
+length-entries : (f : Fed) (es : List Row) → length (run applied f es .rows) ≡ length (f .rows)
+unfolding run applied
+length-entries f [] = refl
+length-entries f (e ∷ es) =
+    let s = found (aSecurity (e .symbol)) (f .rows) in
+    let rs = put sameRow s (traded e s) (f .rows) in
+    length-entries (applied f e) es ∙ length-submits e rs (submits rs e) ∙ put-length s (traded e s) (f .rows)
+
+pub feed-length : (rs es : List Row) → length (feed rs es .rows) ≡ length rs
+unfolding feed limited swept
+feed-length rs es =
+    go (every (λ (e : Row). there (aSecurity (e .symbol)) rs) es) (volumesFit (fed rs es .rows) es)
+    (leb (fed rs es .trades) (room rs)) _
+  where
+    go : (a b c : Bool) (answer : List Row)
+        → length (pick a (pick b (pick c (accepted answer (swept (fed rs es .rows))) (refused NoRoom rs))
+        (refused OverLimit rs)) (refused FeedNoSecurity rs) .rows) ≡ length rs
+    go true true true answer = length-map (fed rs es .rows) _ ∙ length-entries (record { rows = rs; trades = 0 }) es
+    go true true false answer = refl
+    go true false c answer = refl
+    go false b c answer = refl

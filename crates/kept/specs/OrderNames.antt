@@ -1,0 +1,237 @@
+-- An order that is taken leaves S2 to S5: each key is there once, all that is named is there, and bands and rates are
+-- as they were. Assumes nothing.
+use mathlib.Core.Path.{_≡_, refl, sym, ap, _∙_}
+use mathlib.Core.Bool.{Bool, true, false, cond, _&&_, false≢true}
+use mathlib.Core.List.{List, List·Memᴰ, List·Memᴰ·head}
+use mathlib.Core.Logic.{_⊎_, inl, inr, ⊎-elim}
+use Prim.Native.Nat.{ℕ, _+_}
+use native.Mathlib.Omega.{arith}
+use lib.Dec.{eqb, leb}
+use borrow.Author.Tests.{eq-eqb, eqb-false, eqb-true, le-leb, ne-eqb}
+use Rattle.laws.specs.All.{All, all-more, all-one}
+use Rattle.laws.specs.Keep.{count-has}
+use Rattle.laws.specs.Search.{bit, count, the, total}
+use Rattle.record.specs.Codes.{kindBand, kindCustomer, kindCustomerRate, kindFree, kindRequest, kindTrade}
+use Rattle.record.specs.Codes.{kindTradeHistory, tms}
+use Rattle.record.specs.Key.{among, byId, keyOf}
+use Rattle.record.specs.KeyLaws.{key-itself, same-keys}
+use Rattle.record.specs.declared.key.Key.{Key}
+use Rattle.record.specs.declared.row.Row.{Row}
+use Rattle.model.specs.Names.{aBroker, aSecurity, aTaxRate, aTrade, anAccount, named}
+use Rattle.model.specs.Rows.{found, hasKey, is, nothing, there}
+use Rattle.model.specs.Sound.{overlaps, ratesOf}
+use Rattle.model.specs.SoundMeans.{S2, S3, S4, S5, There}
+use Rattle.tables.specs.Found.{own-number}
+use Rattle.result.specs.Apart.{found-kind, found-member, key-kind, names-broker, other-kind, own-key}
+use Rattle.kept.specs.OrderAdds.{grown, grown-comes, grown-count, grown-each, grown-total, still-count, still-the}
+use Rattle.kept.specs.OrderAdds.{still-was}
+use Rattle.kept.specs.OrderFresh.{Taken, added, book, count-added, each-added, history, none-numbered}
+use Rattle.kept.specs.OrderFresh.{not-numbered, request, trade}
+use Rattle.kept.specs.ResultNames.{named-aside}
+
+-- a kind of rows that an order does not add
+abbrev pub Off : ℕ → Type 0
+Off k =
+    (eqb kindFree k ≡ false) × (eqb kindTrade k ≡ false) × (eqb kindTradeHistory k ≡ false)
+    × (eqb kindRequest k ≡ false)
+
+-- a row of another kind than the key's
+pub off-key : (k : Key) (x : Row) → eqb (x .kind) (k .kind) ≡ false → hasKey k x ≡ false
+off-key k x e = go (hasKey k x) refl
+  where
+    go : (b : Bool) → hasKey k x ≡ b → hasKey k x ≡ false
+    go true q = absurd (eqb-false (x .kind) (k .kind) e (key-kind k x q))
+    go false q = q
+
+same-key : (x h : Row) → hasKey (keyOf x) h ≡ true → hasKey (keyOf h) x ≡ true
+unfolding hasKey
+same-key x h e =
+    let q = same-keys (keyOf h) (keyOf x) e in
+    ap (λ (k : Key). hasKey k x) q ∙ key-itself (keyOf x)
+
+no-more : (t : Bool) → cond t (bit false) (bit false) ≡ bit false
+no-more true = refl
+no-more false = refl
+
+module _ {rs : List Row} {input : Row} {broker number price charge commission : ℕ}
+    (o : Taken rs input broker number price charge commission) where
+  abbrev pub left : List Row
+  left = grown rs (added o)
+
+  -- ---- rows of kinds that are not added
+  module _ (k : ℕ) (off : Off k) (p : Row → Bool) (only : (x : Row) → p x ≡ true → x .kind ≡ k) where
+    pub off-row : (x : Row) → eqb (x .kind) k ≡ false → p x ≡ false
+    off-row x e = go (p x) refl
+      where
+        go : (b : Bool) → p x ≡ b → p x ≡ false
+        go true q = absurd (eqb-false (x .kind) k e (only x q))
+        go false q = q
+
+    pub off-added : All (λ (h : Row). p h ≡ false) (added o)
+    off-added =
+        each-added o (λ h. p h ≡ false) (off-row (trade o) (off .1)) (off-row (history o) (off .2))
+        (λ e. off-row (request o) (off .3))
+
+    pub off-count : count p left ≡ count p rs
+    off-count = still-count rs (added o) (o .space) p (off-row nothing (off .0)) off-added
+
+    pub off-the : (d : Row) → the p d left ≡ the p d rs
+    off-the = still-the rs (added o) (o .space) p (off-row nothing (off .0)) off-added
+
+    pub off-was : (x : Row) → List·Memᴰ x left → p x ≡ true → List·Memᴰ x rs
+    off-was = still-was rs (added o) (o .space) p (off-row nothing (off .0)) off-added
+
+  pub of-off : (k : ℕ) → Off k → (x : Row) → List·Memᴰ x left → x .kind ≡ k → List·Memᴰ x rs
+  of-off k off x m e = off-was k off (is k) (λ y h. eqb-true (y .kind) k h) x m (eq-eqb (x .kind) k e)
+
+  pub off-found : (k : Key) → Off (k .kind) → found k left ≡ found k rs
+  unfolding found
+  off-found k off = off-the (k .kind) off (hasKey k) (key-kind k) nothing
+
+  -- ---- S2
+  -- no row that comes has the key of one that was there
+  old-key : (x : Row) → List·Memᴰ x rs → All (λ (h : Row). hasKey (keyOf x) h ≡ false) (added o)
+  unfolding keyOf
+  old-key x m =
+      each-added o (λ h. hasKey (keyOf x) h ≡ false) (apart (trade o) refl refl) (apart (history o) refl refl)
+      (λ e. apart (request o) refl refl)
+    where
+      apart : (h : Row) → among (keyOf h .kind) byId ≡ true → keyOf h .id ≡ number → hasKey (keyOf x) h ≡ false
+      apart h known e = go (hasKey (keyOf x) h) refl
+        where
+          go : (b : Bool) → hasKey (keyOf x) h ≡ b → hasKey (keyOf x) h ≡ false
+          go true q = absurd (false≢true (sym (not-numbered o (keyOf h) known e x m) ∙ same-key x h q))
+          go false q = q
+
+  -- and each of them has a key of its own
+  own : (h : Row) (e : eqb kindFree (keyOf h .kind) ≡ false) → among (keyOf h .kind) byId ≡ true → keyOf h .id ≡ number
+      → count (hasKey (keyOf h)) (added o) ≡ 1 → count (hasKey (keyOf h)) left ≡ 1
+  own h e known i one =
+      let all = grown-count rs (added o) (o .space) (hasKey (keyOf h)) (off-key (keyOf h) nothing e) in
+      let none = none-numbered o (keyOf h) known i in
+      omega arith
+
+  one-trade : count (hasKey (keyOf (trade o))) (added o) ≡ 1
+  one-trade =
+      let t = trade o in
+      count-added o (hasKey (keyOf t)) (own-key t) (other-kind t (history o) refl) (λ e. other-kind t (request o) refl)
+      ∙ ap (λ (n : ℕ). 1 + (0 + n)) (no-more (leb (input .form) tms))
+
+  one-history : count (hasKey (keyOf (history o))) (added o) ≡ 1
+  one-history =
+      let h = history o in
+      count-added o (hasKey (keyOf h)) (other-kind h (trade o) refl) (own-key h) (λ e. other-kind h (request o) refl)
+      ∙ ap (λ (n : ℕ). 0 + (1 + n)) (no-more (leb (input .form) tms))
+
+  one-request : leb (input .form) tms ≡ false → count (hasKey (keyOf (request o))) (added o) ≡ 1
+  one-request e =
+      let r = request o in
+      count-added o (hasKey (keyOf r)) (other-kind r (trade o) refl) (other-kind r (history o) refl) (λ z. own-key r)
+      ∙ ap (λ (t : Bool). 0 + (0 + cond t 0 1)) e
+
+  abbrev Once : Row → Type 0
+  Once x = (x .kind ≡ kindFree) ⊎ (count (hasKey (keyOf x)) left ≡ 1)
+
+  pub keys-left : S2 left
+  unfolding keyOf
+  keys-left =
+      grown-each rs (added o) (o .space) Once old
+      (each-added o Once
+      (inr (own (trade o) refl refl refl one-trade))
+      (inr (own (history o) refl refl refl one-history))
+      (λ e. inr (own (request o) refl refl refl (one-request e))))
+    where
+      old : All Once rs
+      old x m = go (is kindFree x) refl
+        where
+          go : (b : Bool) → is kindFree x ≡ b → Once x
+          go true e = inl (eqb-true (x .kind) kindFree e)
+          go false e =
+              let live = eqb-false (x .kind) kindFree e in
+              let free = ne-eqb kindFree (x .kind) (λ z. live (sym z)) in
+              inr
+              (still-count rs (added o) (o .space) (hasKey (keyOf x)) (off-key (keyOf x) nothing free) (old-key x m)
+              ∙ ⊎-elim (λ f. absurd (live f)) (λ c. c) (book o .s2 x m))
+
+  -- ---- S3
+  -- a key that is there stays
+  pub stays : (k : Key) → eqb kindFree (k .kind) ≡ false → There k rs → There k left
+  stays k e h =
+      let all = grown-count rs (added o) (o .space) (hasKey k) (off-key k nothing e) in
+      omega arith
+
+  abbrev Named : Row → Type 0
+  Named x = All (λ (k : Key). There k left) (named x)
+
+  abbrev Stays : Key → Type 0
+  Stays k = There k left
+
+  trade-there : There (aTrade number) left
+  trade-there =
+      count-has (hasKey (aTrade number)) (trade o) left (grown-comes rs (added o) (o .space) (trade o) first) is-own
+    where
+      first : List·Memᴰ (trade o) (added o)
+      first = List·Memᴰ·head refl
+
+      is-own : hasKey (aTrade number) (trade o) ≡ true
+      is-own = own-number kindTrade refl number (trade o) refl refl
+
+  pub there-test : (k : Key) → There k rs → there k rs ≡ true
+  unfolding there
+  there-test k h = le-leb 1 (count (hasKey k) rs) h
+
+  -- the account's broker
+  broker-there : There (aBroker broker) rs
+  broker-there =
+      let k = anAccount (input .party) in
+      let a = found k rs in
+      let some = there-test k (o .account) in
+      let here = found-member rs k some in
+      let names = names-broker a (found-kind rs k some) in
+      let first = book o .s3 a here (aBroker (a .n1)) (rw names (List·Memᴰ·head refl)) in
+      rw (o .broker-is) at first
+
+  pub names-left : S3 left
+  unfolding named
+  names-left =
+      grown-each rs (added o) (o .space) Named
+      (λ x m k h. stays k (named-aside x k h .0) (book o .s3 x m k h))
+      (each-added o Named
+      (all-more Stays _ _ (stays (anAccount (input .party)) refl (o .account))
+      (all-one Stays _ (stays (aSecurity (input .symbol)) refl (o .security))))
+      (all-one Stays _ trade-there)
+      (λ e. all-more Stays _ _ trade-there (all-more Stays _ _ (stays (aBroker broker) refl broker-there)
+      (all-one Stays _ (stays (aSecurity (input .symbol)) refl (o .security))))))
+
+  -- ---- S4
+  pub bands-left : S4 left
+  bands-left x m e =
+      off-count kindBand (refl, refl, refl, refl) (overlaps x) only
+      ∙ book o .s4 x (of-off kindBand (refl, refl, refl, refl) x m e) e
+    where
+      only : (y : Row) → overlaps x y ≡ true → y .kind ≡ kindBand
+      only y h = go (is kindBand y) refl
+        where
+          go : (b : Bool) → is kindBand y ≡ b → y .kind ≡ kindBand
+          go true q = eqb-true (y .kind) kindBand q
+          go false q = absurd (false≢true (rw q at h))
+
+  -- ---- S5
+  abbrev rateBy : (ℕ → ℕ) → ℕ → Row → ℕ
+  rateBy rate customer x = cond (is kindCustomerRate x && eqb (x .party) customer) (rate (x .n1)) 0
+
+  rates-same : (customer : ℕ) → ratesOf left customer ≡ ratesOf rs customer
+  unfolding ratesOf
+  rates-same customer =
+      ap (λ (f : ℕ → ℕ). total (rateBy f customer) left) (λ i m. same m i .n1)
+      ∙ grown-total rs (added o) (o .space) (rateBy (λ m. found (aTaxRate m) rs .n1) customer) refl
+      (each-added o (λ h. rateBy (λ m. found (aTaxRate m) rs .n1) customer h ≡ 0) refl refl (λ e. refl))
+    where
+      same : (m : ℕ) → found (aTaxRate m) left ≡ found (aTaxRate m) rs
+      same m = off-found (aTaxRate m) (refl, refl, refl, refl)
+
+  pub rates-left : S5 left
+  rates-left x m e =
+      let was = book o .s5 x (of-off kindCustomer (refl, refl, refl, refl) x m e) e in
+      let same = rates-same (x .party) in
+      omega arith

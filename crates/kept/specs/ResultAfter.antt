@@ -1,0 +1,137 @@
+-- The rows that a result leaves: those of kinds that it does not write are as they were, and every key is there still
+-- but those of lots and summaries. Assumes nothing.
+use mathlib.Core.Path.{_≡_, refl, sym, ap, _∙_}
+use mathlib.Core.Bool.{Bool, true, false, false≢true}
+use mathlib.Core.List.{List, [], _∷_, List·Memᴰ, List·Memᴰ·head, List·Memᴰ·tail}
+use Prim.Native.Nat.{ℕ, _+_, _≤_}
+use native.Mathlib.Omega.{arith}
+use lib.Dec.{eqb}
+use lib.ListN.{length}
+use borrow.Author.Tests.{eq-eqb, eqb-false, eqb-true}
+use Rattle.laws.specs.All.{All}
+use Rattle.laws.specs.Change.{puts}
+use Rattle.laws.specs.Search.{count, the, total}
+use Rattle.record.specs.Codes.{kindAccount, kindBroker, kindCash, kindFree, kindSettlement, kindTrade}
+use Rattle.record.specs.Codes.{kindTradeHistory}
+use Rattle.record.specs.Key.{keyOf, sameKey}
+use Rattle.record.specs.declared.key.Key.{Key}
+use Rattle.record.specs.declared.row.Row.{Row}
+use Rattle.model.specs.Lots.{Closing}
+use Rattle.model.specs.Rows.{found, hasKey, is, nothing, sameRow}
+use Rattle.shelf.specs.Put.{row-itself, same-rows}
+use Rattle.result.specs.Apart.{broker-key, holding-key, key-kind, trade-key}
+use Rattle.result.specs.Own.{Read, Sums, added, brokerWrite, tradeWrite}
+use Rattle.kept.specs.ResultBase.{all, all-inside}
+use Rattle.kept.specs.ResultEach.{Aside, by-kind}
+use Rattle.laws.specs.Puts.{Quiet, More, each-row, has-come, no-fewer, no-more, the-puts}
+use Rattle.laws.specs.Puts.{Inside, news, olds, puts-total}
+
+-- a kind of rows that a result does not write
+abbrev pub Still : ℕ → Type 0
+Still k =
+    Aside k
+    × ((eqb kindTradeHistory k ≡ false) × (eqb kindSettlement k ≡ false) × (eqb kindCash k ≡ false)
+    × (eqb kindAccount k ≡ false) × (eqb kindTrade k ≡ false) × (eqb kindBroker k ≡ false))
+
+same-sums : {A : Type 0} (μ : A → ℕ) (ws : List (A × A)) → All (λ (w : A × A). μ (w .0) ≡ μ (w .1)) ws
+    → total μ (olds ws) ≡ total μ (news ws)
+unfolding total
+same-sums μ [] h = refl
+same-sums μ (w ∷ ws) h =
+    let a = h w (List·Memᴰ·head refl) in
+    let b = same-sums μ ws (λ v m. h v (List·Memᴰ·tail m)) in
+    omega arith
+
+pub key-alike : (k : Key) (o x : Row) → keyOf x ≡ keyOf o → hasKey k x ≡ hasKey k o
+unfolding hasKey
+key-alike k o x e = ap (λ (y : Key). sameKey y k) e
+
+module _ {rs : List Row} {t summary account broker : Row} {cs : List Closing}
+    (r : Read rs t summary account broker cs) (n : Sums)
+    (space : length (added t summary cs n) ≤ count (sameRow nothing) rs) where
+  abbrev pub after : List Row
+  after = puts sameRow (all r n) rs
+
+  inside : Inside sameRow (all r n) rs
+  inside = all-inside r n space
+
+  pub after-each : (P : Row → Type 0) → All P rs → All (λ (w : Row × Row). P (w .1)) (all r n) → All P after
+  after-each = each-row sameRow same-rows row-itself (all r n) rs inside
+
+  pub after-comes : (w : Row × Row) → List·Memᴰ w (all r n) → List·Memᴰ (w .1) after
+  after-comes = has-come sameRow same-rows row-itself (all r n) rs inside
+
+  pub after-more : (p : Row → Bool) → All (More p) (all r n) → count p rs ≤ count p after
+  after-more = no-fewer sameRow same-rows row-itself (all r n) rs inside
+
+  pub after-fewer : (p : Row → Bool) → All (λ (w : Row × Row). p (w .1) ≡ true → p (w .0) ≡ true) (all r n)
+      → count p after ≤ count p rs
+  after-fewer = no-more sameRow same-rows row-itself (all r n) rs inside
+
+  -- ---- a test that no row passes that is written
+  module _ (p : Row → Bool) (quiet : All (Quiet p) (all r n)) where
+    pub quiet-count : count p after ≡ count p rs
+    quiet-count =
+        let a = after-more p (λ w m e. absurd (false≢true (sym (quiet w m .0) ∙ e))) in
+        let b = after-fewer p (λ w m e. absurd (false≢true (sym (quiet w m .1) ∙ e))) in
+        omega arith
+
+    pub quiet-the : (d : Row) → the p d after ≡ the p d rs
+    quiet-the d = the-puts sameRow same-rows p d (all r n) rs quiet
+
+    pub quiet-was : (x : Row) → List·Memᴰ x after → p x ≡ true → List·Memᴰ x rs
+    quiet-was =
+        after-each (λ (x : Row). p x ≡ true → List·Memᴰ x rs) (λ x m e. m)
+        (λ w m e. absurd (false≢true (sym (quiet w m .1) ∙ e)))
+
+  pub quiet-found : (k : Key) → All (Quiet (hasKey k)) (all r n) → found k after ≡ found k rs
+  unfolding found
+  quiet-found k quiet = quiet-the (hasKey k) quiet nothing
+
+  -- ---- kinds that are not written
+  module _ (k : ℕ) (s : Still k) where
+    no : {X : Type 0} {b : Bool} → b ≡ false → b ≡ true → X
+    no e h = absurd (false≢true (sym e ∙ h))
+
+    pub still : (p : Row → Bool) → ((x : Row) → p x ≡ true → x .kind ≡ k) → All (Quiet p) (all r n)
+    still p only =
+        by-kind r n (Quiet p) k p only (s .0) (λ w a b. (a, b)) (no (s .1 .0)) (no (s .1 .1)) (no (s .1 .2))
+        (no (s .1 .3)) (no (s .1 .4)) (no (s .1 .5))
+
+    pub still-was : (x : Row) → List·Memᴰ x after → x .kind ≡ k → List·Memᴰ x rs
+    still-was x m e =
+        quiet-was (is k) (still (is k) (λ y h. eqb-true (y .kind) k h)) x m (ap (λ (j : ℕ). eqb j k) e ∙ itself)
+      where
+        itself : eqb k k ≡ true
+        itself = eq-eqb k k refl
+
+    pub still-sum : (μ : Row → ℕ) → ((x : Row) → (x .kind ≡ k → ⊥) → μ x ≡ 0) → total μ after ≡ total μ rs
+    still-sum μ none =
+        let quiet = still (is k) (λ y h. eqb-true (y .kind) k h) in
+        let law = puts-total sameRow same-rows row-itself μ (all r n) rs inside in
+        let same =
+        same-sums μ (all r n)
+        (λ w m.
+        none (w .0) (eqb-false (w .0 .kind) k (quiet w m .0))
+        ∙ sym (none (w .1) (eqb-false (w .1 .kind) k (quiet w m .1))))
+        in
+        omega arith
+
+  pub still-found : (k : Key) → Still (k .kind) → found k after ≡ found k rs
+  still-found k s = quiet-found k (still (k .kind) s (hasKey k) (key-kind k))
+
+  -- ---- every key is there still, but those of lots and summaries
+  pub key-stays : (k : Key) → Aside (k .kind) → count (hasKey k) rs ≤ count (hasKey k) after
+  key-stays k a =
+      after-more (hasKey k)
+      (by-kind r n (More (hasKey k)) (k .kind) (hasKey k) (key-kind k) a (λ w e f h. absurd (false≢true (sym e ∙ h)))
+      (λ e h. absurd (free h)) (λ e h. absurd (free h)) (λ e z h. absurd (free h))
+      (λ e. alike account _ (holding-key account (n .balance)))
+      (λ e. alike t (tradeWrite t n .1) (trade-key t (n .price) (n .commission) (n .tax) (n .time) (r .t-kind)))
+      (λ e. alike broker (brokerWrite broker n .1) (broker-key broker (n .commission) (r .b-kind))))
+    where
+      free : hasKey k nothing ≡ true → ⊥
+      free h = eqb-false kindFree (k .kind) (a .0) (key-kind k nothing h)
+
+      alike : (o x : Row) → keyOf x ≡ keyOf o → hasKey k o ≡ true → hasKey k x ≡ true
+      alike o x e h = key-alike k o x e ∙ h

@@ -1,0 +1,193 @@
+-- Each row that a result writes, one by one: what is shown of each of them holds of all. Assumes nothing.
+use mathlib.Core.Path.{_≡_, refl, sym, _∙_}
+use mathlib.Core.Bool.{Bool, true, false, not, _&&_}
+use mathlib.Core.List.{List, [], _∷_, _++_}
+use Prim.Native.Nat.{ℕ}
+use lib.Dec.{eqb}
+use lib.IntN.{pos}
+use borrow.Author.Tests.{eqb-false, not-false}
+use mir.Syntax.{w64}
+use mir.Val.{toZ}
+use Rattle.laws.specs.All.{All, all-append, all-cond, all-keep, all-map, all-more, all-none, all-one}
+use Rattle.laws.specs.Search.{keep}
+use Rattle.record.specs.Codes.{kindAccount, kindBroker, kindCash, kindFree, kindLot, kindLotHistory, kindSettlement}
+use Rattle.record.specs.Codes.{kindSummary, kindTrade, kindTradeHistory}
+use Rattle.record.specs.declared.row.Row.{Row}
+use Rattle.model.specs.Flags.{cash}
+use Rattle.model.specs.Lots.{Closing}
+use Rattle.model.specs.Result.{leftOf, signed}
+use Rattle.model.specs.Rows.{is, nothing}
+use Rattle.result.specs.Own.{Read, Sums, added, brokerWrite, tradeWrite}
+use Rattle.result.specs.Place.{frees}
+use Rattle.result.specs.Rows.{accountChanges, cashRow, closedLots, closingRows, finalRows, gone, holding, lotChanges}
+use Rattle.result.specs.Rows.{lotHistory, newLot, newSummary, openingRows, reduced, settlementRow, summaryChanges}
+use Rattle.result.specs.Rows.{summaryGone, summaryRows, summedShares, tradeHistory}
+use Rattle.kept.specs.Posted.{adds}
+use Rattle.kept.specs.ResultBase.{all}
+
+-- ---- the rows that are added
+abbrev pub closingOf : Row → Closing → Row
+closingOf t c = lotHistory (c .lot .id) (t .id) (toZ w64 (c .lot .m1)) (leftOf (t .form) c)
+
+abbrev pub openingOf : Row → Sums → Row
+openingOf t n = lotHistory (t .id) (t .id) (pos 0) (signed (t .form) (n .left))
+
+abbrev pub lotOf : Row → Sums → Row
+lotOf t n = newLot t (n .price) (signed (t .form) (n .left)) (n .time)
+
+abbrev pub summaryOf : Row → Row → Row
+summaryOf t summary = newSummary t (summedShares t summary)
+
+abbrev pub historyOf : Row → Sums → Row
+historyOf t n = tradeHistory t (n .time)
+
+abbrev pub settlementOf : Row → Sums → Row
+settlementOf t n = settlementRow t (n .amount) (n .time)
+
+abbrev pub cashOf : Row → Sums → Row
+cashOf t n = cashRow t (n .amount) (n .time)
+
+-- ---- what is to be shown of each
+pub record Each (t summary account broker : Row) (cs : List Closing) (n : Sums) (Q : Row × Row → Type 0) : Type 0 where
+  pub closed : All (λ (c : Closing). Q (nothing, closingOf t c)) cs
+  pub opened : Q (nothing, openingOf t n)
+  pub lot : Q (nothing, lotOf t n)
+  pub begun : is kindFree summary ≡ true → Q (nothing, summaryOf t summary)
+  pub history : Q (nothing, historyOf t n)
+  pub settled : Q (nothing, settlementOf t n)
+  pub paid : cash (t .flags) ≡ true → Q (nothing, cashOf t n)
+  pub less : All (λ (c : Closing). Q (c .lot, holding (c .lot) (leftOf (t .form) c))) cs
+  pub summed : is kindFree summary ≡ false → Q (summary, holding summary (summedShares t summary))
+  pub balanced : Q (account, holding account (n .balance))
+  pub trade : Q (tradeWrite t n)
+  pub gained : Q (brokerWrite broker n)
+  pub freed : All (λ (c : Closing). Q (c .lot, nothing)) cs
+  pub emptied : is kindFree summary ≡ false → Q (summary, nothing)
+
+held : (a b : Bool) → (not a && b) ≡ true → a ≡ false
+held true b h = sym h
+held false b h = refl
+
+-- a kind of rows that are not free, nor lots, summaries or lot histories
+abbrev pub Aside : ℕ → Type 0
+Aside k =
+    (eqb kindFree k ≡ false) × (eqb kindLot k ≡ false) × (eqb kindSummary k ≡ false) × (eqb kindLotHistory k ≡ false)
+
+module _ {rs : List Row} {t summary account broker : Row} {cs : List Closing}
+    (r : Read rs t summary account broker cs) (n : Sums) (Q : Row × Row → Type 0) where
+  module _ (e : Each t summary account broker cs n Q) where
+    each-added : All (λ (h : Row). Q (nothing, h)) (added t summary cs n)
+    each-added =
+        all-append P (closingRows t cs ++ openingRows t (n .price) (n .left) (n .time) ++ summaryRows t summary)
+        (finalRows t (n .amount) (n .time))
+        (all-append P (closingRows t cs ++ openingRows t (n .price) (n .left) (n .time)) (summaryRows t summary)
+        (all-append P (closingRows t cs) (openingRows t (n .price) (n .left) (n .time))
+        (all-map (closingOf t) P cs (e .closed))
+        (all-cond P (eqb (n .left) 0) [] _ (λ z. all-none P)
+        (λ z. all-more P _ _ (e .opened) (all-one P _ (e .lot)))))
+        (all-cond P (not (is kindFree summary)) [] _ (λ z. all-none P)
+        (λ z. all-one P _ (e .begun (not-false (is kindFree summary) z)))))
+        (all-more P _ _ (e .history)
+        (all-more P _ _ (e .settled)
+        (all-cond P (cash (t .flags)) _ [] (λ z. all-one P _ (e .paid z)) (λ z. all-none P))))
+      where
+        P : Row → Type 0
+        P h = Q (nothing, h)
+
+    each-freed : All Q (frees (closedLots cs ++ summaryGone t summary))
+    each-freed =
+        all-map (λ (o : Row). (o, nothing)) Q (closedLots cs ++ summaryGone t summary)
+        (all-append P (closedLots cs) (summaryGone t summary)
+        (all-map (λ (c : Closing). c .lot) P (keep (λ (c : Closing). not (reduced c)) cs)
+        (all-keep (λ (c : Closing). P (c .lot)) (λ (c : Closing). not (reduced c)) cs (e .freed)))
+        (all-cond P (not (is kindFree summary) && gone (summedShares t summary)) _ []
+        (λ z. all-one P _ (e .emptied (held (is kindFree summary) (gone (summedShares t summary)) z)))
+        (λ z. all-none P)))
+      where
+        P : Row → Type 0
+        P o = Q (o, nothing)
+
+    pub each-write : All Q (all r n)
+    each-write =
+        let w1 = lotChanges t cs in
+        let w2 = summaryChanges t summary in
+        let w3 = accountChanges t account (n .balance) in
+        let w4 = tradeWrite t n ∷ [] in
+        let w5 = brokerWrite broker n ∷ [] in
+        let hs = added t summary cs n in
+        let os = closedLots cs ++ summaryGone t summary in
+        all-append Q (adds hs) (w1 ++ w2 ++ w3 ++ w4 ++ w5 ++ frees os)
+        (all-map (λ (h : Row). (nothing, h)) Q hs each-added)
+        (all-append Q (w1 ++ w2 ++ w3 ++ w4 ++ w5) (frees os)
+        (all-append Q (w1 ++ w2 ++ w3 ++ w4) w5
+        (all-append Q (w1 ++ w2 ++ w3) w4
+        (all-append Q (w1 ++ w2) w3
+        (all-append Q w1 w2
+        (all-map (λ (c : Closing). (c .lot, holding (c .lot) (leftOf (t .form) c))) Q (keep reduced cs)
+        (all-keep (λ (c : Closing). Q (c .lot, holding (c .lot) (leftOf (t .form) c))) reduced cs (e .less)))
+        (all-cond Q (not (is kindFree summary) && not (gone (summedShares t summary))) _ []
+        (λ z. all-one Q _ (e .summed (held (is kindFree summary) (not (gone (summedShares t summary))) z)))
+        (λ z. all-none Q)))
+        (all-cond Q (cash (t .flags)) _ [] (λ z. all-one Q _ (e .balanced)) (λ z. all-none Q)))
+        (all-one Q _ (e .trade)))
+        (all-one Q _ (e .gained)))
+        each-freed)
+
+  -- ---- where a test passes rows of such a kind only, no more is to be shown than of the rows of that kind
+  module _ (k : ℕ) (p : Row → Bool) (only : (x : Row) → p x ≡ true → x .kind ≡ k) (a : Aside k)
+      (quiet : (w : Row × Row) → p (w .0) ≡ false → p (w .1) ≡ false → Q w) where
+    off : (j : ℕ) → eqb j k ≡ false → (x : Row) → x .kind ≡ j → p x ≡ false
+    off j e x h = go (p x) refl
+      where
+        go : (b : Bool) → p x ≡ b → p x ≡ false
+        go true q = absurd (eqb-false j k e (sym h ∙ only x q))
+        go false q = q
+
+    off-free : p nothing ≡ false
+    off-free = off kindFree (a .0) nothing refl
+
+    fresh : (j : ℕ) (x : Row) → x .kind ≡ j → (eqb j k ≡ true → Q (nothing, x)) → Q (nothing, x)
+    fresh j x h f = go (eqb j k) refl
+      where
+        go : (b : Bool) → eqb j k ≡ b → Q (nothing, x)
+        go true e = f e
+        go false e = quiet (nothing, x) off-free (off j e x h)
+
+    turned : (j : ℕ) (o x : Row) → o .kind ≡ j → x .kind ≡ j → (eqb j k ≡ true → Q (o, x)) → Q (o, x)
+    turned j o x h i f = go (eqb j k) refl
+      where
+        go : (b : Bool) → eqb j k ≡ b → Q (o, x)
+        go true e = f e
+        go false e = quiet (o, x) (off j e o h) (off j e x i)
+
+    pub by-kind : (eqb kindTradeHistory k ≡ true → Q (nothing, historyOf t n))
+        → (eqb kindSettlement k ≡ true → Q (nothing, settlementOf t n))
+        → (eqb kindCash k ≡ true → cash (t .flags) ≡ true → Q (nothing, cashOf t n))
+        → (eqb kindAccount k ≡ true → Q (account, holding account (n .balance)))
+        → (eqb kindTrade k ≡ true → Q (tradeWrite t n))
+        → (eqb kindBroker k ≡ true → Q (brokerWrite broker n))
+        → All Q (all r n)
+    by-kind f1 f2 f3 f4 f5 f6 =
+        each-write (record {
+          closed = λ c m. quiet (nothing, closingOf t c) off-free (off kindLotHistory (a .3) (closingOf t c) refl);
+          opened = quiet (nothing, openingOf t n) off-free (off kindLotHistory (a .3) (openingOf t n) refl);
+          lot = quiet (nothing, lotOf t n) off-free (off kindLot (a .1) (lotOf t n) refl);
+          begun = λ z.
+              quiet (nothing, summaryOf t summary) off-free (off kindSummary (a .2) (summaryOf t summary) refl);
+          history = fresh kindTradeHistory (historyOf t n) refl f1;
+          settled = fresh kindSettlement (settlementOf t n) refl f2;
+          paid = λ z. fresh kindCash (cashOf t n) refl (λ e. f3 e z);
+          less = λ c m.
+              let x = holding (c .lot) (leftOf (t .form) c) in
+              quiet (c .lot, x) (off kindLot (a .1) (c .lot) (r .c-held c m .1))
+              (off kindLot (a .1) x (r .c-held c m .1));
+          summed = λ z.
+              let x = holding summary (summedShares t summary) in
+              quiet (summary, x) (off kindSummary (a .2) summary (r .s-held z .1))
+              (off kindSummary (a .2) x (r .s-held z .1));
+          balanced = turned kindAccount account (holding account (n .balance)) (r .a-kind) (r .a-kind) f4;
+          trade = turned kindTrade t (tradeWrite t n .1) (r .t-kind) (r .t-kind) f5;
+          gained = turned kindBroker broker (brokerWrite broker n .1) (r .b-kind) (r .b-kind) f6;
+          freed = λ c m. quiet (c .lot, nothing) (off kindLot (a .1) (c .lot) (r .c-held c m .1)) off-free;
+          emptied = λ z. quiet (summary, nothing) (off kindSummary (a .2) summary (r .s-held z .1)) off-free;
+        })

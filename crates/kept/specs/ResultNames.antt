@@ -1,0 +1,190 @@
+-- A result that is done leaves S3, S4 and S5: all that is named is there, and bands and rates are as they were. Assumes
+-- nothing.
+use mathlib.Core.Path.{_≡_, refl, sym, ap, subst, _∙_}
+use mathlib.Core.Bool.{Bool, true, false, cond, not, _&&_, false≢true}
+use mathlib.Core.List.{List, [], _∷_, List·Memᴰ, List·Memᴰ·head, List·Memᴰ·tail}
+use Prim.Native.Nat.{ℕ, zero, suc, _≤_}
+use native.Mathlib.Omega.{arith}
+use lib.Dec.{eqb}
+use lib.ListN.{getD, length}
+use borrow.Author.Tests.{eq-eqb, eqb-true, ne-eqb, not-true}
+use Rattle.laws.specs.All.{All, all-more, all-none, all-one}
+use Rattle.laws.specs.Keep.{count-has}
+use Rattle.laws.specs.Search.{count, every, means-every, total}
+use Rattle.laws.specs.Tests.{and-left, and-right}
+use Rattle.record.specs.Codes.{kindBand, kindBroker, kindCustomerRate, kindFree, kindLot, kindLotHistory}
+use Rattle.record.specs.Codes.{kindCustomer, kindSummary, kindTrade}
+use Rattle.record.specs.declared.key.Key.{Key}
+use Rattle.record.specs.declared.row.Row.{Row}
+use Rattle.model.specs.Lots.{Closing}
+use Rattle.model.specs.Names.{aSecurity, aTaxRate, aTrade, anAccount, named, names}
+use Rattle.model.specs.Result.{leftOf}
+use Rattle.model.specs.Rows.{found, hasKey, is, nothing, sameRow}
+use Rattle.model.specs.Sound.{overlaps, ratesOf}
+use Rattle.model.specs.SoundMeans.{S3, S4, S5, There}
+use Rattle.tables.specs.Found.{own-number}
+use Rattle.result.specs.Apart.{names-account, names-broker}
+use Rattle.result.specs.Own.{Read, Sums, added, brokerWrite, tradeWrite}
+use Rattle.result.specs.Rows.{holding, summedShares}
+use Rattle.kept.specs.ResultAfter.{after, after-each, key-stays, quiet-count, still, still-found, still-sum}
+use Rattle.kept.specs.ResultAfter.{still-was}
+use Rattle.kept.specs.ResultEach.{Aside, Each, each-write}
+use Rattle.kept.specs.ResultFresh.{book}
+
+-- ---- what a row names is no lot, no summary and no lot history
+abbrev aside : Key → Bool
+aside k =
+    not (eqb kindFree (k .kind)) && not (eqb kindLot (k .kind)) && not (eqb kindSummary (k .kind))
+    && not (eqb kindLotHistory (k .kind))
+
+pub every-or : {A : Type 0} (p : A → Bool) (d : A) (l : List A) (i : ℕ) → every p l ≡ true → p d ≡ true
+    → p (getD l i d) ≡ true
+unfolding every
+every-or p d [] i e h = h
+every-or p d (x ∷ l) zero e h = and-left (p x) (every p l) e
+every-or p d (x ∷ l) (suc i) e h = every-or p d l i (and-right (p x) (every p l) e) h
+
+pub named-aside : (x : Row) (k : Key) → List·Memᴰ k (named x) → Aside (k .kind)
+unfolding named every
+named-aside x k m =
+    let all : every aside (named x) ≡ true =
+    every-or (λ (f : Row → List Key). every aside (f x)) (λ (s : Row). []) names (x .kind) refl refl
+    in
+    let one : aside k ≡ true = means-every (named x) (λ j. record { shows = λ e. e; holds = λ e. e }) .shows all k m in
+    let a = not (eqb kindFree (k .kind)) in
+    let b = not (eqb kindLot (k .kind)) in
+    let c = not (eqb kindSummary (k .kind)) in
+    let d = not (eqb kindLotHistory (k .kind)) in
+    let abc = and-left (a && b && c) d one in
+    let ab = and-left (a && b) c abc in (
+      not-true (eqb kindFree (k .kind)) (and-left a b ab),
+      not-true (eqb kindLot (k .kind)) (and-right a b ab),
+      not-true (eqb kindSummary (k .kind)) (and-right (a && b) c abc),
+      not-true (eqb kindLotHistory (k .kind)) (and-right (a && b && c) d one),
+    )
+
+names-lot : (l : Row) → l .kind ≡ kindLot
+    → named l ≡ aTrade (l .id) ∷ anAccount (l .party) ∷ aSecurity (l .symbol) ∷ []
+unfolding named
+names-lot l e = rw e
+
+names-summary : (s : Row) → s .kind ≡ kindSummary → named s ≡ anAccount (s .party) ∷ aSecurity (s .symbol) ∷ []
+unfolding named
+names-summary s e = rw e
+
+names-none : (b : Row) → b .kind ≡ kindBroker → named b ≡ []
+unfolding named
+names-none b e = rw e
+
+-- a customer's rate, told of the rates by their numbers
+abbrev pub rateBy : (ℕ → ℕ) → ℕ → Row → ℕ
+rateBy rate customer x = cond (is kindCustomerRate x && eqb (x .party) customer) (rate (x .n1)) 0
+
+module _ {rs : List Row} {t summary account broker : Row} {cs : List Closing}
+    (r : Read rs t summary account broker cs) (n : Sums)
+    (space : length (added t summary cs n) ≤ count (sameRow nothing) rs) where
+  -- ---- S3
+  abbrev Named : Row → Type 0
+  Named x = All (λ (k : Key). There k (after r n space)) (named x)
+
+  was-named : All Named rs
+  was-named x m k h =
+      let was : There k rs = book r n .s3 x m k h in
+      let more = key-stays r n space k (named-aside x k h) in
+      omega arith
+
+  alike : (o x : Row) → List·Memᴰ o rs → named x ≡ named o → Named x
+  alike o x m e = subst (All (λ (k : Key). There k (after r n space))) (sym e) (was-named o m)
+
+  own-trade : There (aTrade (t .id)) (after r n space)
+  own-trade =
+      let own = own-number kindTrade refl (t .id) t (eq-eqb (t .kind) kindTrade (r .t-kind)) refl in
+      let was = count-has (hasKey (aTrade (t .id))) t rs (r .t-held) own in
+      let more = key-stays r n space (aTrade (t .id)) (refl, refl, refl, refl) in
+      omega arith
+
+  -- the account and the security of the trade
+  of-trade : All (λ (k : Key). There k (after r n space)) (anAccount (t .party) ∷ aSecurity (t .symbol) ∷ [])
+  of-trade =
+      subst (All (λ (k : Key). There k (after r n space))) (names-account t (r .t-kind)) (was-named t (r .t-held))
+
+  of-lot : (c : Closing) → List·Memᴰ c cs → There (aTrade (c .lot .id)) (after r n space)
+  of-lot c m =
+      let h = r .c-held c m in
+      subst (All (λ (k : Key). There k (after r n space))) (names-lot (c .lot) (h .1)) (was-named (c .lot) (h .0))
+      (aTrade (c .lot .id)) (List·Memᴰ·head refl)
+
+  come-named : Each t summary account broker cs n (λ (w : Row × Row). Named (w .1))
+  unfolding named
+  come-named = record {
+    closed = λ c m. all-more P _ _ (of-lot c m) (all-one P _ own-trade);
+    opened = all-more P _ _ own-trade (all-one P _ own-trade);
+    lot = all-more P _ _ own-trade of-trade;
+    begun = λ z. of-trade;
+    history = all-one P _ own-trade;
+    settled = all-one P _ own-trade;
+    paid = λ z. all-one P _ own-trade;
+    less = λ c m.
+        let h = r .c-held c m in
+        let x = holding (c .lot) (leftOf (t .form) c) in
+        alike (c .lot) x (h .0) (names-lot x (h .1) ∙ sym (names-lot (c .lot) (h .1)));
+    summed = λ z.
+        let h = r .s-held z in
+        let x = holding summary (summedShares t summary) in
+        alike summary x (h .0) (names-summary x (h .1) ∙ sym (names-summary summary (h .1)));
+    balanced =
+        let x = holding account (n .balance) in
+        alike account x (r .a-held) (names-broker x (r .a-kind) ∙ sym (names-broker account (r .a-kind)));
+    trade =
+        let x = tradeWrite t n .1 in
+        alike t x (r .t-held) (names-account x (r .t-kind) ∙ sym (names-account t (r .t-kind)));
+    gained =
+        let x = brokerWrite broker n .1 in
+        alike broker x (r .b-held) (names-none x (r .b-kind) ∙ sym (names-none broker (r .b-kind)));
+    freed = λ c m. all-none P;
+    emptied = λ z. all-none P;
+  }
+    where
+      P : Key → Type 0
+      P k = There k (after r n space)
+
+  pub names-left : S3 (after r n space)
+  names-left =
+      after-each r n space Named was-named (each-write r n (λ (w : Row × Row). Named (w .1)) come-named)
+
+  -- ---- S4
+  pub bands-left : S4 (after r n space)
+  bands-left x m e =
+      quiet-count r n space (overlaps x)
+      (still r n space kindBand ((refl, refl, refl, refl), (refl, refl, refl, refl, refl, refl)) (overlaps x) only)
+      ∙ book r n .s4 x
+      (still-was r n space kindBand ((refl, refl, refl, refl), (refl, refl, refl, refl, refl, refl)) x m e)
+      e
+    where
+      only : (y : Row) → overlaps x y ≡ true → y .kind ≡ kindBand
+      only y h = go (is kindBand y) refl
+        where
+          go : (b : Bool) → is kindBand y ≡ b → y .kind ≡ kindBand
+          go true q = eqb-true (y .kind) kindBand q
+          go false q = absurd (false≢true (rw q at h))
+
+  -- ---- S5
+  rates-same : (customer : ℕ) → ratesOf (after r n space) customer ≡ ratesOf rs customer
+  unfolding ratesOf
+  rates-same customer =
+      ap (λ (f : ℕ → ℕ). total (rateBy f customer) (after r n space)) (λ i m. same m i .n1)
+      ∙ still-sum r n space kindCustomerRate ((refl, refl, refl, refl), (refl, refl, refl, refl, refl, refl))
+      (rateBy (λ m. found (aTaxRate m) rs .n1) customer)
+      (λ x h. rw (ne-eqb (x .kind) kindCustomerRate h))
+    where
+      same : (m : ℕ) → found (aTaxRate m) (after r n space) ≡ found (aTaxRate m) rs
+      same m = still-found r n space (aTaxRate m) ((refl, refl, refl, refl), (refl, refl, refl, refl, refl, refl))
+
+  pub rates-left : S5 (after r n space)
+  rates-left x m e =
+      let was =
+      book r n .s5 x
+      (still-was r n space kindCustomer ((refl, refl, refl, refl), (refl, refl, refl, refl, refl, refl)) x m e) e
+      in
+      let same = rates-same (x .party) in
+      omega arith
