@@ -1,5 +1,5 @@
-//! `calls [ROUNDS]`: how long each call of libbook.a takes where it is accepted, by the book's size, beside a copy of the
-//! book and beside the second program, all in one run.
+//! `calls [ROUNDS]`: how long each call of libbook.a takes where it is accepted, by the book's size, beside a copy of
+//! the book and beside the second program, all in one run.
 //!
 //! A size has twenty sound books, the same for all calls, and each book one input for each call. A round copies the
 //! books, each into an area of its own, and then makes the call on each of these copies in turn: so every round does

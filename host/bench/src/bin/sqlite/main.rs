@@ -1,5 +1,5 @@
-//! `sqlite [ROUNDS]`: how long a result takes by book_result and by SQLite in memory, with the statements of the standard
-//! and one transaction a result, on the same books.
+//! `sqlite [ROUNDS]`: how long a result takes by book_result and by SQLite in memory, with the statements of the
+//! standard and one transaction a result, on the same books.
 //!
 //! A round posts the same list of results to a fresh copy of the book and to fresh tables that hold its rows; neither
 //! is made within the time that is measured, nor are the statements prepared. Afterwards every answer is compared, and
@@ -188,7 +188,7 @@ fn main() {
         let spreads: Vec<Spread> = times.into_iter().map(Spread::of).collect();
         for (name, spread) in names.zip(&spreads) {
             println!(
-                "  {name:28} {:28} {:6.2} of book_result",
+                "  {name:28} {:28} {:6.3} of book_result",
                 spread.text(),
                 spread.median / spreads[0].median
             );

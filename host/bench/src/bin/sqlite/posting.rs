@@ -1,5 +1,6 @@
-//! Trade-Result in SQL: the statements of TPC-E 1.14.0, clause 3.3.8, frame by frame, each prepared once; where the page
-//! of the rules differs (the order of lots with equal times, rounding, the check of the status, whole cents), it wins.
+//! Trade-Result in SQL: the statements of TPC-E 1.14.0, clause 3.3.8, frame by frame, each prepared once. Where the
+//! page of the rules differs (the order of lots with equal times, rounding, the check of the status, whole cents), it
+//! wins.
 
 use crate::database::{Database, Statement, Value};
 use second::calls::{commission, tax_on_gain};
@@ -294,8 +295,8 @@ impl<'a> Posting<'a> {
         })
     }
 
-    /// The lots that a trade of so many shares meets, in order. They are read before any is changed, as SQLite does not
-    /// say what a cursor sees of a table that changes under it.
+    /// The lots that a trade of so many shares meets, in order. They are read before any is changed, as SQLite does
+    /// not say what a cursor sees of a table that changes under it.
     fn lots(&self, position: &[Value], lifo: bool, shares: i64) -> Vec<Lot> {
         let statement = if lifo {
             &self.newest_first
