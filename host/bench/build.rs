@@ -1,16 +1,27 @@
-//! Links libgauge.a, which `rt staticlib gauge` writes: from the folder that GAUGE_DIR names, or target/staticlib.
+//! Says what each program is linked with, so that one can be built without what the others need: `soundness` with
+//! libgauge.a from GAUGE_DIR, `calls` with libbook.a from BOOK_DIR, `sqlite` with that and with SQLite. The folders are
+//! target/staticlib unless they are named.
 
 use std::path::PathBuf;
 
-fn main() {
-    println!("cargo:rerun-if-env-changed=GAUGE_DIR");
+fn archive(variable: &str, name: &str) -> String {
+    println!("cargo:rerun-if-env-changed={variable}");
     let here = PathBuf::from(std::env::var("CARGO_MANIFEST_DIR").unwrap());
-    let folder = match std::env::var("GAUGE_DIR") {
+    let folder = match std::env::var(variable) {
         Ok(folder) => PathBuf::from(folder),
         Err(_) => here.join("../../target/staticlib"),
     };
-    let library = folder.join("libgauge.a");
+    let library = folder.join(name);
     println!("cargo:rerun-if-changed={}", library.display());
-    println!("cargo:rustc-link-search=native={}", folder.display());
-    println!("cargo:rustc-link-lib=static=gauge");
+    library.display().to_string()
+}
+
+fn main() {
+    let gauge = archive("GAUGE_DIR", "libgauge.a");
+    let book = archive("BOOK_DIR", "libbook.a");
+    println!("cargo:rerun-if-changed=build.rs");
+    println!("cargo:rustc-link-arg-bin=soundness={gauge}");
+    println!("cargo:rustc-link-arg-bin=calls={book}");
+    println!("cargo:rustc-link-arg-bin=sqlite={book}");
+    println!("cargo:rustc-link-arg-bin=sqlite=-lsqlite3");
 }

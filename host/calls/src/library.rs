@@ -1,4 +1,4 @@
-//! The calls of libbook.a, as include/book.h declares them.
+//! The calls of libbook.a, as include/book.h declares them. host/bench uses this file, too.
 
 use second::calls::Call;
 

@@ -1,4 +1,4 @@
-//! `bench [ROUNDS]`: how long a check of soundness takes, by the book's size: the proved one, the second
+//! `soundness [ROUNDS]`: how long a check of soundness takes, by the book's size: the proved one, the second
 //! program's, and a copy of the book's bytes as the yardstick, all in one run. Once each goes over all books in
 //! turn, so that no call meets the book that it has just met, and once each meets one book again and again. The
 //! medians are printed.
@@ -109,14 +109,7 @@ fn table(rounds: usize, by: usize) {
 }
 
 fn main() {
-    let rounds = match std::env::args().nth(1).map(|word| word.parse()) {
-        None => ROUNDS,
-        Some(Ok(rounds)) if rounds > 0 => rounds,
-        Some(_) => {
-            eprintln!("usage: bench [ROUNDS]");
-            std::process::exit(2);
-        }
-    };
+    let rounds = bench::rounds_asked(ROUNDS);
     println!("medians over {BOOKS} sound books, in microseconds; ratios to the copy");
     println!("\nthe books in turn, {rounds} rounds:");
     table(rounds, BOOKS);
