@@ -15,25 +15,25 @@ use Rattle.laws.specs.Search.{every, keep, place, run, total}
 use Rattle.laws.specs.Sort.{every-sort, sort, sort-map}
 use Rattle.laws.specs.Tests.{and-left, and-right, and-true}
 use Rattle.laws.specs.Walk.{from-holds, left-next, left-none}
-use Rattle.record.specs.Codes.{kindFree, kindRequest, kindSecurity, kindTrade, kindTradeHistory, pending, submitted}
+use Rattle.record.specs.Codes.{kindFree, kindRequest, kindSecurity, kindTrade, pending, submitted}
 use Rattle.record.specs.declared.row.Row.{Row}
 use Rattle.rules.specs.Ranges.{id, kind, m1, n1, status, volume, when}
-use Rattle.model.specs.Edit.{_≔_, changed, new}
+use Rattle.model.specs.Edit.{_≔_, changed}
 use Rattle.model.specs.Feed.{Fed, applied, lower, reached, submits, traded, triggered}
 use Rattle.model.specs.Names.{aSecurity, aTrade}
 use Rattle.model.specs.Sound.{sound}
 use Rattle.model.specs.Rows.{found, hasKey, is, nothing, rows, sameRow, there}
 use Rattle.queue.specs.Gather.{Gathering, gather-end}
 use Rattle.queue.specs.Queue.{Mark, markAt, ordered, queued, queued-last, sooner}
-use Rattle.shelf.specs.Put.{Free, found-has, found-none, found-other, free-add, free-put, free-start, put-found}
-use Rattle.shelf.specs.Put.{there-alike, there-other}
+use Rattle.shelf.specs.Put.{Free, found-has, found-none, free-add, free-put, free-start, put-found}
 use Rattle.shelf.specs.Rows.{after, freeFrom, length-rows, rowAt}
 use Rattle.tables.specs.Bucket.{steady-none, steady-security, steady-trade, steadyBucket}
 use Rattle.tables.specs.Found.{sound-s1}
-use Rattle.tables.specs.Names.{by-id, by-symbol}
+use Rattle.tables.specs.Names.{by-symbol}
 use Rattle.tables.specs.Table.{Indexed, key-row, table-put}
 use Rattle.feed.specs.Hits.{hits}
 use Rattle.feed.specs.Judge.{volumeFits}
+use Rattle.feed.specs.Submit.{found-between, history, sent, submitMark, there-between, there-submit, trade-key}
 use Rattle.feed.specs.Volumes.{sharesFor, there-next, volume-next}
 
 -- ---- the book as the next step may take it
@@ -88,20 +88,6 @@ quoted b b′ steady e {at} {v} {s} t a r m l q =
     no-kind z = omega arith
 
 -- ---- a trade is submitted
-abbrev pub history : ℕ → ℕ → Row
-history time number = new (kind ≔ kindTradeHistory ∷ status ≔ submitted ∷ id ≔ number ∷ when ≔ time ∷ [])
-
-abbrev pub sent : ℕ → Row → Row
-sent time t = changed t (status ≔ submitted ∷ when ≔ time ∷ [])
-
-unfoldable pub submitMark : List Row → Mark → List Row
-submitMark rs m =
-    let t = found (aTrade (m .1)) rs in
-    put sameRow t (sent (m .0) t) (put sameRow nothing (history (m .0) (m .1)) rs)
-
-trade-key : (i : ℕ) (r : Row) → hasKey (aTrade i) r ≡ (is kindTrade r && eqb (r .id) i)
-trade-key i r = by-id kindTrade refl i r
-
 trade-kind : (i : ℕ) (r : Row) → hasKey (aTrade i) r ≡ true → r .kind ≡ kindTrade
 trade-kind i r e =
     eqb-true (r .kind) kindTrade (and-left (is kindTrade r) (eqb (r .id) i) (sym (trade-key i r) ∙ e))
@@ -124,28 +110,6 @@ added b b′ steady time number from {h} {next} s e l n q =
         let f = from-holds (is kindFree) (rows b) from nothing (rw length-rows i) in
         steady-none (history time number) refl refl
         ∙ sym (steady-none (rowAt b (freeFrom (rows b) from)) (eqb-true _ kindFree f) refl)
-
-module _ (rs : List Row) (m : Mark) where
-  abbrev between : List Row
-  between = put sameRow nothing (history (m .0) (m .1)) rs
-
-  found-between : (i : ℕ) → found (aTrade i) between ≡ found (aTrade i) rs
-  found-between i =
-      found-other nothing (history (m .0) (m .1)) rs (aTrade i) (trade-key i nothing)
-      (trade-key i (history (m .0) (m .1)))
-
-  there-between : (i : ℕ) → there (aTrade i) between ≡ there (aTrade i) rs
-  there-between i =
-      there-other nothing (history (m .0) (m .1)) rs (aTrade i) (trade-key i nothing)
-      (trade-key i (history (m .0) (m .1)))
-
-  -- which leaves every trade there
-  there-submit : (i : ℕ) → there (aTrade i) (submitMark rs m) ≡ there (aTrade i) rs
-  unfolding submitMark
-  there-submit i =
-      let t = found (aTrade (m .1)) rs in
-      there-alike t (sent (m .0) t) between (aTrade i) (trade-key i (sent (m .0) t) ∙ sym (trade-key i t))
-      ∙ there-between i
 
 pub submits-one : (b b₁ b₂ steady : List ℕ) (time number from : ℕ) {h t n : Row} {next at : ℕ} → Ready b steady from
     → there (aTrade number) (rows b) ≡ true → h ≡ history time number → length b₁ ≡ length b

@@ -4,6 +4,7 @@ pub mod Hits
 pub mod Judge
 pub mod Pending
 pub mod Steps
+pub mod Submit
 pub mod Sweep
 pub mod Volumes
 pub mod Whole

@@ -1,5 +1,4 @@
--- The trades after the steps of an entry: they are all there, and those are pending that were, but for the ones that
--- it submits. Assumes nothing.
+-- The trades after the steps of an entry: those are pending that were, but for the ones that it submits. Assumes nothing.
 use mathlib.Core.Path.{_≡_, refl, sym, ap, _∙_}
 use mathlib.Core.Bool.{Bool, true, false, not, _&&_}
 use mathlib.Core.List.{List, [], _∷_}
@@ -11,16 +10,17 @@ use borrow.Author.Tests.{eqb-true}
 use Rattle.laws.specs.Change.{put}
 use Rattle.laws.specs.Search.{every, keep, run}
 use Rattle.laws.specs.Tests.{and-assoc, and-false, and-right, and-true}
-use Rattle.record.specs.Codes.{kindTrade, kindTradeHistory, pending, submitted}
+use Rattle.record.specs.Codes.{kindTrade, pending, submitted}
 use Rattle.record.specs.declared.row.Row.{Row}
-use Rattle.rules.specs.Ranges.{id, kind, status, when}
-use Rattle.model.specs.Edit.{_≔_, changed, new}
-use Rattle.model.specs.Feed.{Fed, applied, submit, submits, traded}
+use Rattle.rules.specs.Ranges.{id, status}
+use Rattle.model.specs.Edit.{_≔_}
+use Rattle.model.specs.Feed.{submit, submits, traded}
 use Rattle.model.specs.Names.{aSecurity, aTrade}
 use Rattle.model.specs.Rows.{found, hasKey, is, nothing, sameRow, there}
-use Rattle.tables.specs.Names.{by-id}
-use Rattle.shelf.specs.Put.{found-has, found-none, found-other, found-same, there-alike, there-other}
-use Rattle.feed.specs.Steps.{found-either, found-kept, key-of, there-kept, traded-keeps}
+use Rattle.shelf.specs.Put.{found-has, found-none, found-other, found-same, there-alike}
+use Rattle.feed.specs.Submit.{between, found-between, sent, trade-key}
+use Rattle.queue.specs.Queue.{Mark}
+use Rattle.feed.specs.Steps.{found-either, found-kept, key-of, traded-keeps}
 
 abbrev pub pends : List Row → ℕ → Bool
 pends rs i = eqb (found (aTrade i) rs .status) pending
@@ -38,28 +38,19 @@ pends-traded e y rs i =
     ap (λ (r : Row). eqb (r .status) pending)
     (found-kept (aTrade i) (put sameRow s (traded e s) rs) rs (traded-found e y rs i))
 
-trade-key : (i : ℕ) (r : Row) → hasKey (aTrade i) r ≡ (is kindTrade r && eqb (r .id) i)
-trade-key i r = by-id kindTrade refl i r
-
 -- ---- one trade is submitted
 module _ (e : Row) (rs : List Row) (r : Row) where
-  abbrev history : Row
-  history = new (kind ≔ kindTradeHistory ∷ status ≔ submitted ∷ id ≔ r .id ∷ when ≔ e .time ∷ [])
-
-  abbrev between : List Row
-  between = put sameRow nothing history rs
+  abbrev m : Mark
+  m = (e .time, r .id)
 
   abbrev was : Row
   was = found (aTrade (r .id)) rs
 
   abbrev becomes : Row
-  becomes = changed was (status ≔ submitted ∷ when ≔ e .time ∷ [])
+  becomes = sent (e .time) was
 
   same-key : (i : ℕ) → hasKey (aTrade i) becomes ≡ hasKey (aTrade i) was
   same-key i = trade-key i becomes ∙ sym (trade-key i was)
-
-  found-between : (i : ℕ) → found (aTrade i) between ≡ found (aTrade i) rs
-  found-between i = found-other nothing history rs (aTrade i) (trade-key i nothing) (trade-key i history)
 
   other-key : (i : ℕ) → eqb (r .id) i ≡ false → hasKey (aTrade i) was ≡ false
   other-key i n =
@@ -73,25 +64,20 @@ module _ (e : Row) (rs : List Row) (r : Row) where
       (λ h. ap (hasKey (aTrade i)) h ∙ trade-key i nothing)
       (found-either (aTrade (r .id)) rs)
 
-  there-submit : (i : ℕ) → there (aTrade i) (submit e rs r) ≡ there (aTrade i) rs
-  there-submit i =
-      there-alike was becomes between (aTrade i) (same-key i)
-      ∙ there-other nothing history rs (aTrade i) (trade-key i nothing) (trade-key i history)
-
   -- which leaves it pending no longer, and every other as it is
   gone : pends (submit e rs r) (r .id) ≡ false
-  gone = go (there (aTrade (r .id)) between) refl
+  gone = go (there (aTrade (r .id)) (between rs m)) refl
     where
-      go : (t : Bool) → there (aTrade (r .id)) between ≡ t → pends (submit e rs r) (r .id) ≡ false
+      go : (t : Bool) → there (aTrade (r .id)) (between rs m) ≡ t → pends (submit e rs r) (r .id) ≡ false
       go true h =
           ap (λ (x : Row). eqb (x .status) pending)
-          (found-same was becomes between (aTrade (r .id)) h (sym (found-between (r .id)))
-          (same-key (r .id) ∙ ap (hasKey (aTrade (r .id))) (sym (found-between (r .id)))
-          ∙ found-has (aTrade (r .id)) between h))
+          (found-same was becomes (between rs m) (aTrade (r .id)) h (sym (found-between rs m (r .id)))
+          (same-key (r .id) ∙ ap (hasKey (aTrade (r .id))) (sym (found-between rs m (r .id)))
+          ∙ found-has (aTrade (r .id)) (between rs m) h))
       go false h =
           ap (λ (x : Row). eqb (x .status) pending)
           (found-none (aTrade (r .id)) (submit e rs r)
-          (there-alike was becomes between (aTrade (r .id)) (same-key (r .id)) ∙ h))
+          (there-alike was becomes (between rs m) (aTrade (r .id)) (same-key (r .id)) ∙ h))
 
   pends-submit : (i : ℕ) → pends (submit e rs r) i ≡ (pends rs i && not (eqb (r .id) i))
   pends-submit i = go (eqb (r .id) i) refl
@@ -101,15 +87,10 @@ module _ (e : Row) (rs : List Row) (r : Row) where
           ap (pends (submit e rs r)) (sym (eqb-true (r .id) i h)) ∙ gone ∙ rw h (sym (and-false (pends rs i)))
       go false h =
           ap (λ (x : Row). eqb (x .status) pending)
-          (found-other was becomes between (aTrade i) (other-key i h) (same-key i ∙ other-key i h) ∙ found-between i)
+          (found-other was becomes (between rs m) (aTrade i) (other-key i h) (same-key i ∙ other-key i h) ∙ found-between rs m i)
           ∙ rw h (sym (and-true (pends rs i)))
 
 -- ---- all that an entry submits
-there-submits : (e : Row) (rs ts : List Row) (i : ℕ) → there (aTrade i) (run (submit e) rs ts) ≡ there (aTrade i) rs
-unfolding run
-there-submits e rs [] i = refl
-there-submits e rs (t ∷ ts) i = there-submits e (submit e rs t) ts i ∙ there-submit e rs t i
-
 pub pends-submits : (e : Row) (rs ts : List Row) (i : ℕ)
     → pends (run (submit e) rs ts) i ≡ (pends rs i && every (λ (t : Row). not (eqb (t .id) i)) ts)
 unfolding run every
@@ -118,12 +99,3 @@ pends-submits e rs (t ∷ ts) i =
     pends-submits e (submit e rs t) ts i
     ∙ rw (pends-submit e rs t i)
     (sym (and-assoc (pends rs i) (not (eqb (t .id) i)) (every (λ (t : Row). not (eqb (t .id) i)) ts)))
-
--- ---- all entries
-pub trade-next : (i : ℕ) (f : Fed) (e : Row) → there (aTrade i) (applied f e .rows) ≡ there (aTrade i) (f .rows)
-unfolding applied
-trade-next i f e =
-    let s = found (aSecurity (e .symbol)) (f .rows) in
-    let rs = put sameRow s (traded e s) (f .rows) in
-    there-submits e rs (submits rs e) i
-    ∙ there-kept (aTrade i) rs (f .rows) (traded-found e (e .symbol) (f .rows) i)

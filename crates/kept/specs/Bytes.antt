@@ -36,7 +36,8 @@ byte = 0 ⋯ 255
 
 abbrev widths : List Range
 widths =
-    byte ∷ byte ∷ byte ∷ byte ∷ any32 ∷ any64 ∷ any64 ∷ any32 ∷ any32 ∷ any32 ∷ any32 ∷ any64 ∷ any64 ∷ any32 ∷ any32
+    byte ∷ byte ∷ byte ∷ byte ∷ any32 ∷ any64 ∷ any64 ∷ any32 ∷ any32
+    ∷ any32 ∷ any32 ∷ any64 ∷ any64 ∷ any32 ∷ any32
     ∷ []
 
 -- each field's range ends within its width

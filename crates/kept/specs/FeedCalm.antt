@@ -110,7 +110,10 @@ module _ {rs m : List Row} (lead : Leads rs m) where
       ∙ count-map (λ (b : Bool). b) p rs
 
   pub calm-total : (f : Row → ℕ) → Calm f → total f (swept m) ≡ total f rs
-  calm-total f c = sym (total-map (λ (x : ℕ). x) f (swept m)) ∙ ap (total (λ (x : ℕ). x)) (calm-map f c) ∙ total-map (λ (x : ℕ). x) f rs
+  calm-total f c =
+      sym (total-map (λ (x : ℕ). x) f (swept m))
+      ∙ ap (total (λ (x : ℕ). x)) (calm-map f c)
+      ∙ total-map (λ (x : ℕ). x) f rs
 
   pub calm-sum : (f : Row → ℤ) → Calm f → sumZ f (swept m) ≡ sumZ f rs
   calm-sum f c = sym (sum-map f (swept m)) ∙ ap (sumZ (λ (x : ℤ). x)) (calm-map f c) ∙ sum-map f rs

@@ -41,7 +41,8 @@ pub number-is : (k : ℕ) → among k idKinds ≡ true → (i : ℕ) (x : Row) �
 number-is k known i x e =
     eqb-true (x .id) i (and-right (is k x) (eqb (x .id) i) (sym (by-id k known i x) ∙ e))
 
-pub other-number : (k : ℕ) → among k idKinds ≡ true → (i : ℕ) (x : Row) → (x .id ≡ i → ⊥) → hasKey (byId k i) x ≡ false
+pub other-number : (k : ℕ) → among k idKinds ≡ true → (i : ℕ) (x : Row) → (x .id ≡ i → ⊥)
+    → hasKey (byId k i) x ≡ false
 other-number k known i x ne = go (hasKey (byId k i) x) refl
   where
     go : (b : Bool) → hasKey (byId k i) x ≡ b → hasKey (byId k i) x ≡ false

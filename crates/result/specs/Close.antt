@@ -279,7 +279,8 @@ module _ {b₀ at : List ℕ} {count : ℕ} {t : Row} {b : List ℕ} {need next 
           ∙ was
 
       -- a lot that is closed in whole
-      pub close-more : {need′ : ℕ} → x ≡ 0 → need′ ≡ need - taken need l → Closings b₀ at count t b′ need′ next′ (i - 1)
+      pub close-more : {need′ : ℕ} → x ≡ 0 → need′ ≡ need - taken need l
+          → Closings b₀ at count t b′ need′ next′ (i - 1)
       unfolding every
       close-more {need′} z q =
           let w = s .within in

@@ -89,9 +89,6 @@ module _ (rs : List Row) (k : Key) where
       at-place (placed rs) (cash (t .flags)) (it, holding it z) (at, holding it z)
       (λ h. ap (λ (n : ℕ). (n, holding it z)) (spot-found k rs e))
 
-  pub one-put : (n : Row) → there k rs ≡ true → placed rs (it, n) ≡ (at, n)
-  one-put n e = ap (λ (p : ℕ). (p, n)) (spot-found k rs e)
-
 freed-places : (rs os : List Row) → map (placed rs) (frees os) ≡ map (λ (p : ℕ). (p, nothing)) (map (spot rs) os)
 freed-places rs [] = refl
 freed-places rs (o ∷ os) = ap (λ (l : List (ℕ × Row)). (spot rs o, nothing) ∷ l) (freed-places rs os)

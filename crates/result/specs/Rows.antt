@@ -17,8 +17,8 @@ use Rattle.record.specs.declared.row.Row.{Row}
 use Rattle.rules.specs.Ranges.{flags, id, kind, m1, m2, n1, n2, n3, party, sharesMost, status, symbol, when}
 use Rattle.model.specs.Edit.{_≔_, bits32, bits64, changed, inSymbol, new}
 use Rattle.model.specs.Flags.{cash}
-use Rattle.model.specs.Lots.{Closing, closings, size}
-use Rattle.model.specs.Result.{Figures, View, leftOf, posting, settlementSeconds, signed}
+use Rattle.model.specs.Lots.{Closing, size}
+use Rattle.model.specs.Result.{leftOf, settlementSeconds, signed}
 use Rattle.model.specs.Rows.{is}
 
 abbrev pub lotHistory : ℕ → ℕ → ℤ → ℤ → Row
@@ -123,29 +123,3 @@ closedLots cs = map (λ (c : Closing). c .lot) (keep (λ (c : Closing). not (red
 
 abbrev pub summaryGone : Row → Row → List Row
 summaryGone t summary = cond (not (is kindFree summary) && gone (summedShares t summary)) (summary ∷ []) []
-
-module _ (input : Row) (v : View) (f : Figures) where
-  pub changes-are : posting input v f .changes
-      ≡ lotChanges (v .trade) (closings (v .trade .n1) (v .lots))
-      ++ summaryChanges (v .trade) (v .summary)
-      ++ accountChanges (v .trade) (v .account) (f .balance)
-      ++ (v .trade, tradeAfter (v .trade) (input .n1) (f .commission) (f .tax) (input .time)) ∷ []
-  unfolding posting
-  changes-are = refl
-
-  pub freed-are : posting input v f .freed
-      ≡ closedLots (closings (v .trade .n1) (v .lots)) ++ summaryGone (v .trade) (v .summary)
-  unfolding posting
-  freed-are = refl
-
-  pub added-are : posting input v f .added
-      ≡ closingRows (v .trade) (closings (v .trade .n1) (v .lots))
-      ++ openingRows (v .trade) (input .n1) (f .walked .need) (input .time)
-      ++ summaryRows (v .trade) (v .summary)
-      ++ finalRows (v .trade) (f .settlement) (input .time)
-  unfolding posting
-  added-are = refl
-
-  pub answer-is : posting input v f .answer ≡ answerRow (v .trade) (f .tax) (f .balance) (f .settlement)
-  unfolding posting
-  answer-is = refl

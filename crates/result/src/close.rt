@@ -70,7 +70,6 @@ pub fn lot_places(
     at: &mut [u16; Queue::MOST],
 ) -> usize
     requires { ⌜ Indexed keyBucket (now book) (now keys) 0 ⌝ }
-    requires { ⌜ s2 (rows (now book)) ≡ true ⌝ }
     ensures { λ r. ⌜ span (now (at .exit)) r r
         ≡ map (spot (rows (now (book .entry)))) (lotsOf (rows (now (book .entry))) trade) ⌝ }
     ensures { λ r. ⌜ r ≤ queueMost ⌝ }
@@ -136,7 +135,7 @@ fn closing_row(lot: Row, trade: Row, left: u64) -> Row
 pub fn add_closings(book: &mut [u8], at: &[u16; Queue::MOST], count: usize, trade: Row) -> Closed
     requires { ⌜ Free (now book) 0 ⌝ }
     requires { ⌜ (s1 (rows (now book)) ≡ true) × (s2 (rows (now book)) ≡ true) ⌝ }
-    requires { ⌜ (count ≤ queueMost) × (trade .n1 ≤ sharesMost) ⌝ }
+    requires { ⌜ count ≤ queueMost ⌝ }
     requires { ⌜ span (now at) count count ≡ map (spot (rows (now book))) (lotsOf (rows (now book)) trade) ⌝ }
     ensures { λ r. ⌜ Added (closingRows trade (closed (rows (now (book .entry))) trade))
         (now (book .entry)) (now (book .exit)) (r .next) ⌝ }

@@ -40,14 +40,14 @@ post-requires c κs =
 
 returns : tie.Need-returns
 returns c =
-    let put = (c .before .before) in
-    let known = (c .before .before .before .before .before .before .before) in
-    let posted = (c .before .before .before .before .before .before .before .before .before) in
-    let test = (c .before .before .before .before .before .before .before .before .before .before .before) in
-    let judged = (c .before .before .before .before .before .before .before .before .before .before .before .before .before) in
-    let reckoned = (c .before .before .before .before .before .before .before .before .before .before .before .before .before .before .before) in
-    let read = (c .before .before .before .before .before .before .before .before .before .before .before .before .before .before .before .before .before) in
-    let start = (c .before .before .before .before .before .before .before .before .before .before .before .before .before .before .before .before .before .before .before .before .before) in
+    let put = c .before .before in
+    let known = put .before .before .before .before .before in
+    let posted = known .before .before in
+    let test = posted .before .before in
+    let judged = test .before .before in
+    let reckoned = judged .before .before in
+    let read = reckoned .before .before in
+    let start = read .before .before .before .before in
     let same : length (posted .post .last .0) ≡ length (start .args .book .now) = search needs in
     let done =
     result-done _ _ (start .args .input) (read .terms-of .ensures) (reckoned .figured .ensures .0)

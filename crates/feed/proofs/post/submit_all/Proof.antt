@@ -7,7 +7,8 @@ use lib.ListN.{length}
 use Rattle.laws.specs.Search.{run}
 use Rattle.model.specs.Rows.{rows}
 use Rattle.queue.specs.Queue.{queued}
-use Rattle.feed.specs.Apply.{Ready, Submitting, applies, submitMark, submits-more, submits-need}
+use Rattle.feed.specs.Apply.{Ready, Submitting, applies, submits-more, submits-need}
+use Rattle.feed.specs.Submit.{submitMark}
 use borrow.Author.Needs.{needs}
 use Rattle.feed.proofs.post.submit_all.Statement.{statement}
 use Rattle.feed.proofs.post.submit_all.Tie as tie

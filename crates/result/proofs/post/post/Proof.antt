@@ -11,40 +11,45 @@ use Rattle.result.proofs.post.post.Tie as tie
 
 lot-places-requires : tie.Need-lot-places-requires
 lot-places-requires c κs =
-    let start = c .before .before .before .before .before .before .before .before .before in
-    (start .pre .0, sound-s2 _ (start .pre .1 .0 .0))
+    let places = c .before .before in
+    let start = places .before .before .before .before .before .before .before in
+    start .pre .0
 
 add-closings-requires : tie.Need-add-closings-requires
 add-closings-requires c κs =
     let lots = c .before .before in
-    let start = c .before .before .before .before .before .before .before .before .before .before .before .before in
+    let places = lots .before .before .before in
+    let start = places .before .before .before .before .before .before .before in
     let good = start .pre .1 .0 .0 in
-    let most = trade-shares _ (start .args .input) good (start .pre .1 .1 .0 .0) in
-    (free-start _ (sound-s1 _ good), ((sound-s1 _ good, sound-s2 _ good), ((lots .lot-places .ensures .1, most), lots .lot-places .ensures .0)))
+    let told = lots .lot-places .ensures in
+    (free-start _ (sound-s1 _ good), ((sound-s1 _ good, sound-s2 _ good), (told .1, told .0)))
 
 add-own-requires : tie.Need-add-own-requires
 add-own-requires c κs =
     let left = c .before .before in
-    let closed = (c .before .before .before .before .before) in
-    let start = c .before .before .before .before .before .before .before .before .before .before .before .before .before .before .before .before .before .before in
+    let closed = left .before .before .before in
+    let places = closed .before .before .before .before .before .before in
+    let start = places .before .before .before .before .before .before .before in
     let good = start .pre .1 .0 .0 in
     let read = start .pre .1 .1 .0 .0 in
     let reckoned = start .pre .1 .1 .0 .1 in
     let v = start .args in
     let most = trade-shares _ (v .input) good read in
     let right = start .pre .1 .0 .1 in
-    let few = few-rows _ (start .pre .0 .few) in (
+    let few = few-rows _ (start .pre .0 .few) in
+    let some = left-fits _ (v .input) good right read reckoned (left .in-shares .ensures) in (
       closed .add-closings .ensures .0 .free,
-      (
-        (summary-seen _ good (v .input) few read, most),
-        (left-fits _ (v .input) good right read reckoned (left .in-shares .ensures), time-fits _ (v .input) good right read reckoned),
-      ),
+      ((summary-seen _ good (v .input) few read, most), (some, time-fits _ (v .input) good right read reckoned)),
     )
 
 change-requires : tie.Need-change-requires
 change-requires c κs =
-    let broker = (c .before .before .before .before .before .before .before .before .before .before .before .before .before .before .before .before .before .before .before .before .before) in
-    let start = c .before .before .before .before .before .before .before .before .before .before .before .before .before .before .before .before .before .before .before .before .before .before .before .before .before .before in
+    let part = c .before .before .before in
+    let own = part .before .before .before .before in
+    let closed = own .before .before .before .before .before .before in
+    let places = closed .before .before .before .before .before .before in
+    let broker = places .before .before in
+    let start = broker .before .before .before .before .before in
     let good = start .pre .1 .0 .0 in
     let read = start .pre .1 .1 .0 .0 in
     let v = start .args in
@@ -55,7 +60,12 @@ change-requires c κs =
 
 free-summary-requires : tie.Need-free-summary-requires
 free-summary-requires c κs =
-    let start = c .before .before .before .before .before .before .before .before .before .before .before .before .before .before .before .before .before .before .before .before .before .before .before .before .before .before .before .before .before .before .before .before .before .before .before in
+    let changed = c .before .before .before .before .before .before .before .before in
+    let part = changed .before .before .before .before in
+    let own = part .before .before .before .before in
+    let closed = own .before .before .before .before .before .before in
+    let places = closed .before .before .before .before .before .before in
+    let start = places .before .before .before .before .before .before .before in
     let good = start .pre .1 .0 .0 in
     let read = start .pre .1 .1 .0 .0 in
     let v = start .args in
@@ -64,16 +74,16 @@ free-summary-requires c κs =
 
 returns : tie.Need-returns
 returns c =
-    let freed = (c .before .before) in
-    let lots = (c .before .before .before .before .before .before) in
-    let changed = (c .before .before .before .before .before .before .before .before .before .before .before) in
-    let part = (c .before .before .before .before .before .before .before .before .before .before .before .before .before .before .before) in
-    let own = (c .before .before .before .before .before .before .before .before .before .before .before .before .before .before .before .before .before .before .before) in
-    let left = (c .before .before .before .before .before .before .before .before .before .before .before .before .before .before .before .before .before .before .before .before .before .before) in
-    let closed = (c .before .before .before .before .before .before .before .before .before .before .before .before .before .before .before .before .before .before .before .before .before .before .before .before .before) in
-    let places = (c .before .before .before .before .before .before .before .before .before .before .before .before .before .before .before .before .before .before .before .before .before .before .before .before .before .before .before .before .before .before .before) in
-    let broker = (c .before .before .before .before .before .before .before .before .before .before .before .before .before .before .before .before .before .before .before .before .before .before .before .before .before .before .before .before .before .before .before .before .before) in
-    let start = c .before .before .before .before .before .before .before .before .before .before .before .before .before .before .before .before .before .before .before .before .before .before .before .before .before .before .before .before .before .before .before .before .before .before .before .before .before .before in
+    let freed = c .before .before in
+    let lots = freed .before .before .before .before in
+    let changed = lots .before .before .before .before .before in
+    let part = changed .before .before .before .before in
+    let own = part .before .before .before .before in
+    let left = own .before .before .before in
+    let closed = left .before .before .before in
+    let places = closed .before .before .before .before .before .before in
+    let broker = places .before .before in
+    let start = broker .before .before .before .before .before in
     let good = start .pre .1 .0 .0 in
     let v = start .args in
     let told = closed .add-closings .ensures in

@@ -13,4 +13,11 @@ returns c =
     rw (flag .before .nothing .ensures, flag .cash-flag .ensures, c .bits64 .ensures, own)
 
 pub settlement-row-spec : {M : Type 1} → statement M
-settlement-row-spec = tie.close (tie.spec (λ c κs. search needs) (λ c κs. search needs) (λ c κs. search needs) (λ c. search needs) returns)
+settlement-row-spec =
+    tie.close
+    (tie.spec
+    (λ c κs. search needs)
+    (λ c κs. search needs)
+    (λ c κs. search needs)
+    (λ c. search needs)
+    returns)
