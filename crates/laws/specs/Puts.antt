@@ -103,14 +103,6 @@ module _ {A : Type 0} (same : A → A → Bool) (tells : (a b : A) → same a b 
       ⊎-elim (λ k. inl (member x l k)) (λ k. inr (member x (news ws) k))
       (one-of (count (same x) l) (count (same x) (news ws)) (omega arith))
 
-  -- one that does not give way stays
-  pub puts-stays : (ws : List (A × A)) (l : List A) → Inside same ws l → (x : A) → List·Memᴰ x l
-      → count (same x) (olds ws) ≡ 0 → List·Memᴰ x (puts same ws l)
-  puts-stays ws l h x m e =
-      let law = puts-count (same x) ws l h in
-      let was = is-counted x l m in
-      member x (puts same ws l) (omega arith)
-
   -- one that comes is there
   pub puts-comes : (ws : List (A × A)) (l : List A) → Inside same ws l → (x : A) → List·Memᴰ x (news ws)
       → List·Memᴰ x (puts same ws l)

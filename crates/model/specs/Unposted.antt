@@ -70,13 +70,17 @@ looks-only : (t : Bool) (rs inputs : List Row)
 looks-only true rs inputs = refl
 looks-only false rs inputs = refl
 
+pub lookup-rows : (rs inputs : List Row) → lookup rs inputs .rows ≡ rs
+unfolding lookup
+lookup-rows rs inputs = looks-only (every (λ (i : Row). there (aTrade (i .id)) rs) inputs) rs inputs
+
 -- a lookup leaves every byte of the book
 pub lookup-keeps : (b input answer : List ℕ) → Bytes b → lookupCall b input answer .book ≡ b
-unfolding lookupCall lookup
+unfolding lookupCall
 lookup-keeps b input answer bs =
     let is = rows input in
     shell-keeps b answer bs (λ rs. lookup rs is)
-    (looks-only (every (λ (i : Row). there (aTrade (i .id)) (rows b)) is) (rows b) is)
+    (lookup-rows (rows b) is)
     (wholeRecords mostInputs (length input) && eqb (length answer) (2 * length input))
     (every lookupInput is)
 

@@ -134,7 +134,7 @@ module _ (rs : List Row) (input : Row) (t : Terms) (e : Estimate) where
 pub ruleset judging = (no-account, no-security, no-tax, no-rate, no-charge, no-number, no-room, all-well)
 
 -- ---- it is the status that the rules define
-how-many : (t : Bool) (r : Row) → suc (suc (length (cond t [] (r ∷ [])))) ≡ cond t 2 3
+pub how-many : (t : Bool) (r : Row) → suc (suc (length (cond t [] (r ∷ [])))) ≡ cond t 2 3
 how-many true r = refl
 how-many false r = refl
 

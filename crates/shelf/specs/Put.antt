@@ -17,6 +17,7 @@ use Rattle.laws.specs.Tests.{one-truth}
 use Rattle.laws.specs.Walk.{from-alike}
 use Rattle.record.specs.Codes.{kindFree}
 use Rattle.record.specs.declared.key.Key.{Key}
+use Rattle.record.specs.Grid.{row-eq}
 use Rattle.record.specs.declared.row.Row.{Row}
 use Rattle.rules.specs.Meaning.{means-free}
 use Rattle.rules.specs.Rules.{as-kind, fits}
@@ -25,27 +26,6 @@ use Rattle.model.specs.Sound.{s1}
 use Rattle.shelf.specs.Rows.{after, freeFrom, rowAt}
 
 -- ---- the test tells equality
-row-eq : {a b : Row} → a .kind ≡ b .kind → a .form ≡ b .form → a .status ≡ b .status → a .flags ≡ b .flags
-    → a .party ≡ b .party → a .id ≡ b .id → a .symbol ≡ b .symbol → a .n1 ≡ b .n1 → a .n2 ≡ b .n2 → a .n3 ≡ b .n3
-    → a .n4 ≡ b .n4 → a .m1 ≡ b .m1 → a .m2 ≡ b .m2 → a .time ≡ b .time → a .n5 ≡ b .n5 → a ≡ b
-row-eq e0 e1 e2 e3 e4 e5 e6 e7 e8 e9 e10 e11 e12 e13 e14 = λ i. record {
-  kind = e0 i;
-  form = e1 i;
-  status = e2 i;
-  flags = e3 i;
-  party = e4 i;
-  id = e5 i;
-  symbol = e6 i;
-  n1 = e7 i;
-  n2 = e8 i;
-  n3 = e9 i;
-  n4 = e10 i;
-  m1 = e11 i;
-  m2 = e12 i;
-  time = e13 i;
-  n5 = e14 i;
-}
-
 abbrev field : ℕ → ℕ → Digit
 field x y = record { base = 0; mine = x; yours = y }
 
