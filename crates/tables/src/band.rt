@@ -13,33 +13,26 @@ use record::row::Grid;
 use record::row::Row;
 use shelf::place::row_at;
 
-fn holds(form: u8, tier: u8, exchange: u8, shares: u32, r: Row) -> bool
-    ensures { λ b. ⌜ b ≡ bandFor form tier exchange shares r ⌝ }
+fn holds(trade: Row, tier: u8, exchange: u8, r: Row) -> bool
+    ensures { λ b. ⌜ b ≡ bandFor (trade .form) tier exchange (trade .n1) r ⌝ }
 {
     (r.kind == Kind::BAND)
-        & (r.form == form)
+        & (r.form == trade.form)
         & (r.status == tier)
         & (r.flags == exchange)
-        & (r.n1 <= shares)
-        & (shares <= r.n2)
+        & (r.n1 <= trade.n1)
+        & (trade.n1 <= r.n2)
 }
 
-fn band_at(
-    book: &[u8],
-    keys: &[u16; Slots::ALL],
-    form: u8,
-    tier: u8,
-    exchange: u8,
-    shares: u32,
-) -> usize
+fn band_at(book: &[u8], keys: &[u16; Slots::ALL], trade: Row, tier: u8, exchange: u8) -> usize
     requires { ⌜ Indexed keyBucket (now book) (now keys) 0 ⌝ }
-    ensures { λ r. ⌜ r ≡ place (bandFor form tier exchange shares) (rows (now (book .entry))) ⌝ }
+    ensures { λ r. ⌜ r ≡ place (bandFor (trade .form) tier exchange (trade .n1)) (rows (now (book .entry))) ⌝ }
 {
     let n = book.len() / Grid::SIZE;
-    let h = bucket(Kind::BAND, form, exchange, 0, 0, 0);
+    let h = bucket(Kind::BAND, trade.form, exchange, 0, 0, 0);
     let mut c = wide(keys[h]);
     while c < n {
-        if holds(form, tier, exchange, shares, row_at(book, c)) {
+        if holds(trade, tier, exchange, row_at(book, c)) {
             return c;
         }
         let s = Slots::HEADS + c;
@@ -48,17 +41,10 @@ fn band_at(
     c
 }
 
-// The band that holds the shares, nothing where there is none.
-pub fn band(
-    book: &[u8],
-    keys: &[u16; Slots::ALL],
-    form: u8,
-    tier: u8,
-    exchange: u8,
-    shares: u32,
-) -> Row
+// The band that holds the trade's shares, nothing where there is none.
+pub fn band(book: &[u8], keys: &[u16; Slots::ALL], trade: Row, tier: u8, exchange: u8) -> Row
     requires { ⌜ Indexed keyBucket (now book) (now keys) 0 ⌝ }
-    ensures { λ r. ⌜ r ≡ the (bandFor form tier exchange shares) nothing (rows (now (book .entry))) ⌝ }
+    ensures { λ r. ⌜ r ≡ the (bandFor (trade .form) tier exchange (trade .n1)) nothing (rows (now (book .entry))) ⌝ }
 {
-    row_at(book, band_at(book, keys, form, tier, exchange, shares))
+    row_at(book, band_at(book, keys, trade, tier, exchange))
 }
