@@ -39,13 +39,19 @@ same-order : (last : Bool) (a b : Row) → before last a b ≡ ordered last (mar
 unfolding sooner
 same-order last a b = refl
 
-pub marks-of : (rs : List Row) (form flags account symbol : ℕ) {falling : Bool} → falling ≡ lifo flags
-    → sort (ordered falling) (map mark (keep (closes form account symbol) rs))
-    ≡ map mark (lotsFor rs form flags account symbol)
+-- the lots that a trade closes, before and in the order of the walk
+abbrev closedBy : List Row → Row → List Row
+closedBy rs t = keep (closes (t .form) (t .party) (t .symbol)) rs
+
+abbrev pub lotsOf : List Row → Row → List Row
+lotsOf rs t = lotsFor rs (t .form) (t .flags) (t .party) (t .symbol)
+
+pub marks-of : (rs : List Row) (t : Row) {falling : Bool} → falling ≡ lifo (t .flags)
+    → sort (ordered falling) (map mark (closedBy rs t)) ≡ map mark (lotsOf rs t)
 unfolding lotsFor
-marks-of rs form flags account symbol e =
-    rw e (sym (sort-map mark (before (lifo flags)) (ordered (lifo flags)) (same-order (lifo flags))
-    (keep (closes form account symbol) rs)))
+marks-of rs t e =
+    let last = lifo (t .flags) in
+    rw e (sym (sort-map mark (before last) (ordered last) (same-order last) (closedBy rs t)))
 
 -- ---- the lots of the numbers
 unfoldable pub lotsAt : List Row → List ℕ → ℕ → List Row
@@ -82,22 +88,21 @@ closes-lot form account symbol l e =
     (and-left (is kindLot l && eqb (l .party) account) (eqb (l .symbol) symbol)
     (and-left (lotOf account symbol l) (buys form ⇔ short l) e))
 
-module _ (rs : List Row) (unique : s2 rs ≡ true) (form flags account symbol : ℕ) where
+module _ (rs : List Row) (unique : s2 rs ≡ true) (t : Row) where
   abbrev again : Row → Row
   again l = found (aLot (l .id)) rs
 
-  a-lot : (l : Row) → List·Memᴰ l (keep (closes form account symbol) rs) → again l ≡ l
+  a-lot : (l : Row) → List·Memᴰ l (closedBy rs t) → again l ≡ l
   a-lot l m =
-      let k = keep-from (closes form account symbol) l rs m in
-      found-again kindLot refl rs unique l (k .0) (closes-lot form account symbol l (k .1))
+      let k = keep-from (closes (t .form) (t .party) (t .symbol)) l rs m in
+      found-again kindLot refl rs unique l (k .0) (closes-lot (t .form) (t .party) (t .symbol) l (k .1))
 
   -- each lot is found by its number
-  lots-again : map (λ (l : Row). found (aLot (l .id)) rs) (lotsFor rs form flags account symbol)
-      ≡ lotsFor rs form flags account symbol
+  lots-again : map again (lotsOf rs t) ≡ lotsOf rs t
   unfolding lotsFor
   lots-again =
-      let o = before (lifo flags) in
-      let ks = keep (closes form account symbol) rs in
+      let o = before (lifo (t .flags)) in
+      let ks = closedBy rs t in
       sort-map-of again o o ks (λ a b m n. ap₂ o (sym (a-lot a m)) (sym (a-lot b n)))
       ∙ ap (sort o) (map-on again (λ r. r) ks a-lot ∙ map-same ks)
 
@@ -172,19 +177,17 @@ module _ {form price : ℕ} {rs : List Row} {ids : List ℕ} {n₀ : ℕ} {w₀ 
       s .exact ∙ ap made e
 
 -- ---- all the numbers of a queue give all the lots
-lots-all : (rs : List Row) (times ids : List ℕ) (n form flags account symbol : ℕ) → s2 rs ≡ true
-    → queued times ids n ≡ map mark (lotsFor rs form flags account symbol)
-    → lotsAt rs ids n ≡ lotsFor rs form flags account symbol
-lots-all rs times ids n form flags account symbol u q =
-    lots-queued rs times ids n (lotsFor rs form flags account symbol) q ∙ lots-again rs u form flags account symbol
+lots-all : (rs : List Row) (times ids : List ℕ) (n : ℕ) (t : Row) → s2 rs ≡ true
+    → queued times ids n ≡ map mark (lotsOf rs t) → lotsAt rs ids n ≡ lotsOf rs t
+lots-all rs times ids n t u q = lots-queued rs times ids n (lotsOf rs t) q ∙ lots-again rs u t
 
 -- what the walk over all of them is
-pub walk-all : (form price : ℕ) (rs : List Row) (times ids : List ℕ) (n s flags account symbol : ℕ) {w : Walk}
-    → s2 rs ≡ true → queued times ids n ≡ map mark (lotsFor rs form flags account symbol) → w ≡ made (start s)
-    → run (step form price) (seen w) (lotsAt rs ids n) ≡ walk form price s (lotsFor rs form flags account symbol)
+pub walk-all : (t : Row) (price : ℕ) (rs : List Row) (times ids : List ℕ) (n : ℕ) {w : Walk} → s2 rs ≡ true
+    → queued times ids n ≡ map mark (lotsOf rs t) → w ≡ made (start (t .n1))
+    → run (step (t .form) price) (seen w) (lotsAt rs ids n) ≡ walk (t .form) price (t .n1) (lotsOf rs t)
 unfolding walk
-walk-all form price rs times ids n s flags account symbol u q e =
-    rw e (ap (run (step form price) (start s)) (lots-all rs times ids n form flags account symbol u q))
+walk-all t price rs times ids n u q e =
+    rw e (ap (run (step (t .form) price) (start (t .n1))) (lots-all rs times ids n t u q))
 
 -- ---- of the lots of all n₀ numbers `many` are closed, and those of the first n are left with a need
 pub record Counting (rs : List Row) (ids : List ℕ) (n₀ need₀ n need many : ℕ) : Type 0 where
@@ -226,9 +229,8 @@ module _ {rs : List Row} {ids : List ℕ} {n₀ need₀ n need many : ℕ} (s : 
       omega arith
 
 -- and all in all as many as the rules close
-pub count-all : (rs : List Row) (times ids : List ℕ) (n form flags account symbol need : ℕ) {many : ℕ}
-    → s2 rs ≡ true → queued times ids n ≡ map mark (lotsFor rs form flags account symbol)
-    → many ≡ length (closings need (lotsAt rs ids n))
-    → many ≡ length (closings need (lotsFor rs form flags account symbol))
-count-all rs times ids n form flags account symbol need u q e =
-    e ∙ ap (λ (ls : List Row). length (closings need ls)) (lots-all rs times ids n form flags account symbol u q)
+pub count-all : (rs : List Row) (times ids : List ℕ) (n : ℕ) (t : Row) {many : ℕ} → s2 rs ≡ true
+    → queued times ids n ≡ map mark (lotsOf rs t) → many ≡ length (closings (t .n1) (lotsAt rs ids n))
+    → many ≡ length (closings (t .n1) (lotsOf rs t))
+count-all rs times ids n t u q e =
+    e ∙ ap (λ (ls : List Row). length (closings (t .n1) ls)) (lots-all rs times ids n t u q)

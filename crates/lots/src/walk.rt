@@ -87,13 +87,11 @@ pub struct Walk {
 }
 
 impl Walk {
-    // A count below zero needs nothing.
-    pub fn start(shares: Shares) -> Walk
-        requires { ⌜ up (shares .0) ≤ sharesMost ⌝ }
-        ensures { λ r. ⌜ r ≡ made (start (up (shares .0))) ⌝ }
+    pub fn start(shares: u32) -> Walk
+        ensures { λ r. ⌜ r ≡ made (start shares) ⌝ }
     {
         Walk {
-            need: units::shares(units::in_shares(shares)),
+            need: units::shares(shares as u64),
             bought: Cents(0),
             sold: Cents(0),
         }

@@ -8,26 +8,25 @@ use Rattle.lots.proofs.lots.closed.Statement.{statement}
 use Rattle.lots.proofs.lots.closed.Tie as tie
 
 abbrev Inv-loop : tie.InvT-loop
-Inv-loop book keys form flags account symbol shares ids n₀ need₀ many₀ n need many =
+Inv-loop book keys ids n₀ need₀ many₀ n need many =
     Counting (rows book) ids n₀ need₀ n need many
 
 abbrev μ-loop : tie.MeasureT-loop
-μ-loop book keys form flags account symbol shares ids n₀ need₀ many₀ n need many = n
+μ-loop book keys ids n₀ need₀ many₀ n need many = n
 
 gather-requires : tie.Need-gather-requires Inv-loop μ-loop
 gather-requires c κs = c .before .before .before .pre .0 .few
 
 loop-holds : tie.Need-loop-holds Inv-loop μ-loop
-loop-holds c = count-start _ _ _ _ (c .gather .ensures .1)
+loop-holds c = count-start _ _ _ _ (c .before .gather .ensures .1)
 
 returns : tie.Need-returns Inv-loop μ-loop
 returns c =
     let inv = c .before .before .loop .inv in
-    let at = c .before .before .before in
+    let at = c .before .before .before .before in
     let first = at .before .before .before .before in
-    let a = first .args in
     let few = inv .few in (
-      count-all _ _ _ _ (a .form) (a .flags) (a .account) (a .symbol) _ (first .pre .1) (at .gather .ensures .0)
+      count-all _ _ _ _ (first .args .trade) (first .pre .1) (at .gather .ensures .0)
           (count-met inv (c .if1 .taken)),
       omega arith,
     )
@@ -47,11 +46,10 @@ loop-again c =
 returns-2 : tie.Need-returns-2 Inv-loop μ-loop
 returns-2 c =
     let inv = c .before .loop .inv in
-    let at = c .before .before in
+    let at = c .before .before .before in
     let first = at .before .before .before .before in
-    let a = first .args in
     let few = inv .few in (
-      count-all _ _ _ _ (a .form) (a .flags) (a .account) (a .symbol) _ (first .pre .1) (at .gather .ensures .0)
+      count-all _ _ _ _ (first .args .trade) (first .pre .1) (at .gather .ensures .0)
           (count-end inv (c .loop-test .left)),
       omega arith,
     )
@@ -63,6 +61,7 @@ closed-spec =
     Inv-loop
     μ-loop
     gather-requires
+    (λ c. search needs)
     loop-holds
     returns
     (λ c. search needs)

@@ -11,11 +11,11 @@ use Rattle.lots.proofs.lots.gather.Statement.{statement}
 use Rattle.lots.proofs.lots.gather.Tie as tie
 
 abbrev Inv-loop : tie.InvT-loop
-Inv-loop book form flags account symbol times₀ ids₀ falling n₀ i₀ times ids n i =
-    Gathering (closes form account symbol) mark (ordered falling) book times ids n i
+Inv-loop book trade times₀ ids₀ falling n₀ i₀ times ids n i =
+    Gathering (closes (trade .form) (trade .party) (trade .symbol)) mark (ordered falling) book times ids n i
 
 abbrev μ-loop : tie.MeasureT-loop
-μ-loop book form flags account symbol times₀ ids₀ falling n₀ i₀ times ids n i = i
+μ-loop book trade times₀ ids₀ falling n₀ i₀ times ids n i = i
 
 loop-again : tie.Need-loop-again Inv-loop μ-loop
 loop-again c =
@@ -29,8 +29,10 @@ returns : tie.Need-returns Inv-loop μ-loop
 returns c =
     let inv = c .before .loop .inv in
     let few = inv .few in
-    let pre = c .before .before .before .before .pre in
-    (gather-end inv (c .loop-test .left) ∙ marks-of _ _ _ _ _ (c .before .before .last-first .ensures), omega arith)
+    let first = c .before .before .before .before in
+    let pre = first .pre in
+    let marks = marks-of _ (first .args .trade) (c .before .before .last-first .ensures) in
+    (gather-end inv (c .loop-test .left) ∙ marks, omega arith)
 
 pub gather-spec : {M : Type 1} → statement M
 gather-spec =

@@ -11,17 +11,14 @@ use Rattle.lots.proofs.lots.walk.Statement.{statement}
 use Rattle.lots.proofs.lots.walk.Tie as tie
 
 abbrev Inv-loop : tie.InvT-loop
-Inv-loop book keys form flags account symbol price ids n₀ w₀ n w =
-    Walking form (price .0) (rows book) ids n₀ w₀ n w
+Inv-loop book keys trade price ids n₀ w₀ n w =
+    Walking (trade .form) (price .0) (rows book) ids n₀ w₀ n w
 
 abbrev μ-loop : tie.MeasureT-loop
-μ-loop book keys form flags account symbol price ids n₀ w₀ n w = n
+μ-loop book keys trade price ids n₀ w₀ n w = n
 
 gather-requires : tie.Need-gather-requires Inv-loop μ-loop
 gather-requires c κs = c .before .before .before .pre .0 .few
-
-start-requires : tie.Need-start-requires Inv-loop μ-loop
-start-requires c κs = c .before .before .before .before .pre .1 .1 .1
 
 loop-holds : tie.Need-loop-holds Inv-loop μ-loop
 loop-holds c =
@@ -48,7 +45,7 @@ returns c =
     let start = c .before .before .start .ensures in
     let a = first .args in
     let all =
-    walk-all (a .form) (a .price .0) _ _ _ _ _ (a .flags) (a .account) (a .symbol) (first .pre .1 .0 .1)
+    walk-all (a .trade) (a .price .0) _ _ _ _ (first .pre .1 .0 .1)
     (c .before .before .before .gather .ensures .0) start
     in
     (walk-end inv (c .loop-test .left) ∙ ap made all, rw start at (inv .room))
@@ -60,7 +57,7 @@ walk-spec =
     Inv-loop
     μ-loop
     gather-requires
-    start-requires
+    (λ c κs. search needs)
     loop-holds
     (λ c. search needs)
     (λ c. search needs)
