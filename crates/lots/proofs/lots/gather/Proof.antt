@@ -19,11 +19,10 @@ abbrev μ-loop : tie.MeasureT-loop
 
 loop-again : tie.Need-loop-again Inv-loop μ-loop
 loop-again c =
-    let left = c .before .before .before in
-    let at = left .before .before in
-    gather-more (at .before .loop .inv) _ _ (at .loop-test .taken) (left .before .row-at .ensures)
-    (c .admit .ensures .0)
-    (rw (left .closes .ensures) at (c .admit .ensures .1))
+    let row = c .before .before .before .before in
+    let at = row .before in
+    gather-more (at .before .loop .inv) _ _ (at .loop-test .taken) (row .row-at .ensures) (c .admit .ensures .0)
+    (rw (c .before .closes .ensures) at (c .admit .ensures .1))
 
 returns : tie.Need-returns Inv-loop μ-loop
 returns c =
