@@ -17,13 +17,14 @@ use Rattle.kinds.specs.declared.units.TradeNo.{TradeNo}
 use Rattle.rules.specs.Meaning.{means-order-input}
 use Rattle.rules.specs.Ranges.{commissionPart, priceMost, sharesMost, taxPart}
 use Rattle.rules.specs.Rules.{orderInput}
-use Rattle.model.specs.Lots.{lotsFor, walk}
+use Rattle.model.specs.Lots.{walk}
 use Rattle.model.specs.Money.{commissionOf, taxOf, untaxed}
 use Rattle.model.specs.Names.{aCustomer, aSecurity, anAccount}
 use Rattle.model.specs.Order.{View, atMarket, priceUsed, taxed, view, walked}
 use Rattle.model.specs.Rows.{found}
 use Rattle.model.specs.Sound.{sound}
 use Rattle.tables.specs.Found.{sound-s1}
+use Rattle.lots.specs.Lots.{lotsOf}
 use Rattle.lots.specs.Terms.{perTenThousand, priceOf, rate-most, rates-most}
 use Rattle.lots.specs.Walk.{made}
 use Rattle.lots.specs.declared.walk.Walk.{Walk}
@@ -71,9 +72,8 @@ pub price-bid : (input s : Row) → tms < input .form
 price-bid input s h = rw (lt-leb (input .form) tms h)
 
 -- ---- all is in its range, and the values are those of the rules
-pub shares-fit : (input : Row) {s : Shares} → orderInput input ≡ true → s ≡ shares (pos (input .n1))
-    → up (s .0) ≤ sharesMost
-shares-fit input right e = rw e (means-order-input input .shows right .0 .0 .2 .2 .2 .2 .2 .2 .2 .1)
+pub shares-fit : (input : Row) → orderInput input ≡ true → input .n1 ≤ sharesMost
+shares-fit input right = means-order-input input .shows right .0 .0 .2 .2 .2 .2 .2 .2 .2 .1
 
 module _ (rs : List Row) (input : Row) {t : Terms} (good : sound rs ≡ true) (right : orderInput input ≡ true)
     (h : t ≡ termsOf rs input) where
@@ -96,13 +96,12 @@ module _ (rs : List Row) (input : Row) {t : Terms} (good : sound rs ≡ true) (r
       let tier = found (aCustomer (a .n2)) rs .form in
       rw h (rate-most rs (input .form) tier (found (aSecurity (input .symbol)) rs .form) (input .n1) (sound-s1 rs good))
 
-  pub estimate-is : {p : Price} {s : Shares} {w : Walk} {x k : Cents} {u : Bool}
-      → p ≡ priceOf (cond (atMarket input) (t .security .n1) (input .n2)) → s ≡ shares (pos (input .n1))
-      → w ≡ made (walk (input .form) (p .0) (up (s .0))
-      (lotsFor rs (input .form) (input .flags) (input .party) (input .symbol)))
+  pub estimate-is : {p : Price} {w : Walk} {x k : Cents} {u : Bool} {s : Shares}
+      → p ≡ priceOf (cond (atMarket input) (t .security .n1) (input .n2))
+      → w ≡ made (walk (input .form) (p .0) (input .n1) (lotsOf rs input))
       → x ≡ cents (pos (taxOf (t .account .form) (t .rates) (up (w .bought .0)) (up (w .sold .0))))
       → u ≡ untaxed (t .account .form) (t .rates) (up (w .bought .0)) (up (w .sold .0))
-      → k ≡ cents (pos (commissionOf (t .rate .0) (up (s .0)) (p .0)))
+      → s ≡ shares (pos (input .n1)) → k ≡ cents (pos (commissionOf (t .rate .0) (up (s .0)) (p .0)))
       → _≡_ {A = Estimate} (record { price = p; walk = w; tax = x; untaxed = u; commission = k }) (estimated rs input)
   unfolding termsOf estimated view
-  estimate-is e f g i j l = rw (l, j, i, g, f, e, h)
+  estimate-is e g i j f l = rw (l, f, j, i, g, e, h)

@@ -97,7 +97,7 @@ pub fn terms_of(
         security,
         charge: charge(book, input.form, tier),
         rates: rates(book, keys, account.n2),
-        rate: rate(book, keys, input.form, tier, security.form, input.n1),
+        rate: rate(book, keys, input, tier, security.form),
         number: next_number(book),
     }
 }
@@ -119,23 +119,13 @@ pub fn estimated(book: &[u8], keys: &[u16; Slots::ALL], input: Row, terms: Terms
     ensures { λ r. ⌜ r ≡ estimated (rows (now (book .entry))) input ⌝ }
 {
     let price = price_used(input, terms.security);
-    let count = shares(input.n1 as u64);
-    let w = walk(
-        book,
-        keys,
-        input.form,
-        input.flags,
-        input.party,
-        input.symbol,
-        price,
-        count,
-    );
+    let w = walk(book, keys, input, price);
     let status = terms.account.form;
     Estimate {
         price,
         walk: w,
         tax: tax(status, terms.rates, w.bought, w.sold),
         untaxed: untaxed(status, terms.rates, w.bought, w.sold),
-        commission: commission(terms.rate, count, price),
+        commission: commission(terms.rate, shares(input.n1 as u64), price),
     }
 }

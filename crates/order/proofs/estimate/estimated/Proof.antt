@@ -8,58 +8,54 @@ use Rattle.order.proofs.estimate.estimated.Tie as tie
 
 walk-requires : tie.Need-walk-requires
 walk-requires c κs =
-    let pre = c .before .before .before .before .pre in
+    let pre = c .before .before .pre in
     let good = pre .1 .0 .0 in
     let right = pre .1 .0 .1 in
-    let price = price-fits _ _ good right (pre .1 .1) (c .before .before .price-used .ensures) in
-    (pre .0, ((sound-s1 _ good, sound-s2 _ good), (price, shares-fit _ right (c .shares .ensures))))
+    let price = price-fits _ _ good right (pre .1 .1) (c .price-used .ensures) in
+    (pre .0, ((sound-s1 _ good, sound-s2 _ good), (price, shares-fit _ right)))
 
 tax-requires : tie.Need-tax-requires
 tax-requires c κs =
-    let pre = c .before .before .before .before .before .pre in
-    let good = pre .1 .0 .0 in
+    let pre = c .before .before .before .pre in
     let right = pre .1 .0 .1 in
-    let terms = pre .1 .1 in
-    let count = c .before .shares .ensures in
-    (rates-fit _ _ good right terms, sold-most (c .walk .result) _ (shares-fit _ right count) (c .walk .ensures .1))
+    let sold = sold-most (c .walk .result) _ (shares-fit _ right) (c .walk .ensures .1) in
+    (rates-fit _ _ (pre .1 .0 .0) right (pre .1 .1), sold)
 
 untaxed-requires : tie.Need-untaxed-requires
 untaxed-requires c κs =
     let w = c .before in
-    let pre = w .before .before .before .before .before .pre in
-    let good = pre .1 .0 .0 in
+    let pre = w .before .before .before .pre in
     let right = pre .1 .0 .1 in
-    let terms = pre .1 .1 in
-    let count = w .before .shares .ensures in
-    (rates-fit _ _ good right terms, sold-most (w .walk .result) _ (shares-fit _ right count) (w .walk .ensures .1))
+    let sold = sold-most (w .walk .result) _ (shares-fit _ right) (w .walk .ensures .1) in
+    (rates-fit _ _ (pre .1 .0 .0) right (pre .1 .1), sold)
 
 commission-requires : tie.Need-commission-requires
 commission-requires c κs =
-    let count = c .before .before .before in
-    let pre = count .before .before .before .before .pre in
+    let used = c .before .before .before .before .before in
+    let pre = used .before .before .pre in
     let good = pre .1 .0 .0 in
     let right = pre .1 .0 .1 in
-    let price = price-fits _ _ good right (pre .1 .1) (count .before .before .price-used .ensures) in
-    (rate-fits _ _ good right (pre .1 .1), shares-fit _ right (count .shares .ensures), price)
+    let price = price-fits _ _ good right (pre .1 .1) (used .price-used .ensures) in
+    (rate-fits _ _ good right (pre .1 .1), rw (c .shares .ensures) (shares-fit _ right), price)
 
 returns : tie.Need-returns
 returns c =
-    let taxed = c .before .before in
-    let w = taxed .before in
-    let price = w .before .before .before in
-    let pre = price .before .before .pre in
-    estimate-is _ _ (pre .1 .0 .0) (pre .1 .0 .1) (pre .1 .1) (price .price-used .ensures) (w .before .shares .ensures)
-    (w .walk .ensures .0) (taxed .tax .ensures .0) (c .before .untaxed .ensures) (c .commission .ensures .0)
+    let untaxed = c .before .before .before in
+    let w = untaxed .before .before in
+    let pre = w .before .before .before .pre in
+    estimate-is _ _ (pre .1 .0 .0) (pre .1 .0 .1) (pre .1 .1) (w .before .price-used .ensures) (w .walk .ensures .0)
+    (untaxed .before .tax .ensures .0) (untaxed .untaxed .ensures) (c .before .shares .ensures)
+    (c .commission .ensures .0)
 
 pub estimated-spec : {M : Type 1} → statement M
 estimated-spec =
     tie.close
     (tie.spec
     (λ c κs. search needs)
-    (λ c. search needs)
-    (λ c κs. search needs)
     walk-requires
     tax-requires
     untaxed-requires
+    (λ c. search needs)
+    (λ c κs. search needs)
     commission-requires
     returns)
