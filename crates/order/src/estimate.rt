@@ -120,12 +120,11 @@ pub fn estimated(book: &[u8], keys: &[u16; Slots::ALL], input: Row, terms: Terms
 {
     let price = price_used(input, terms.security);
     let w = walk(book, keys, input, price);
-    let status = terms.account.form;
     Estimate {
         price,
         walk: w,
-        tax: tax(status, terms.rates, w.bought, w.sold),
-        untaxed: untaxed(status, terms.rates, w.bought, w.sold),
+        tax: tax(terms.account.form, terms.rates, w.bought, w.sold),
+        untaxed: untaxed(terms.account.form, terms.rates, w.bought, w.sold),
         commission: commission(terms.rate, shares(input.n1 as u64), price),
     }
 }
