@@ -25,10 +25,10 @@ use Rattle.model.specs.Rows.{is, nothing, rows, sameRow}
 use Rattle.model.specs.Sound.{s1, s2}
 use Rattle.shelf.specs.Put.{Adding, Free, add-next}
 use Rattle.shelf.specs.Rows.{after, freeFrom, rowAt}
-use Rattle.lots.specs.Lots.{closings-next, closings-none}
+use Rattle.lots.specs.Lots.{closings-next, closings-none, lotsOf}
 use Rattle.result.specs.declared.close.Closed.{Closed}
 use Rattle.result.specs.Add.{Added}
-use Rattle.result.specs.Place.{lotsOf, placed, span, spot}
+use Rattle.result.specs.Place.{placed, span, spot}
 use Rattle.result.specs.Places.{all-good, fair, good, lots-in, lotsIn, span-next}
 use Rattle.result.specs.Rows.{closedLots, closingRows, holding, lotChanges, lotHistory, reduced}
 

@@ -20,7 +20,7 @@ use Rattle.rules.specs.Meaning.{means-account, means-result-input, means-trade}
 use Rattle.rules.specs.Ranges.{charged, commissionPart, moneyMost, priceMost, sharesMost, taxPart}
 use Rattle.rules.specs.Rules.{as-kind, resultInput}
 use Rattle.model.specs.Flags.{cash}
-use Rattle.model.specs.Lots.{lotsFor, walk}
+use Rattle.model.specs.Lots.{walk}
 use Rattle.model.specs.Money.{commissionOf, settlementOf, taxOf, untaxed}
 use Rattle.model.specs.Names.{aCustomer, aSecurity, aTrade, anAccount}
 use Rattle.model.specs.Result.{View, figures, view}
@@ -29,6 +29,7 @@ use Rattle.model.specs.Rows.{found, hasKey, is}
 use Rattle.model.specs.Sound.{s1, sound}
 use Rattle.tables.specs.Names.{by-id, by-party}
 use Rattle.tables.specs.Found.{sound-s1, the-most}
+use Rattle.lots.specs.Lots.{lotsOf}
 use Rattle.lots.specs.Terms.{perTenThousand, rate-most, rates-most}
 use Rattle.lots.specs.Walk.{made}
 use Rattle.lots.specs.declared.walk.Walk.{Walk}
@@ -104,9 +105,6 @@ module _ (rs : List Row) (input : Row) {t : Terms} (good : sound rs ≡ true) (h
   unfolding termsOf view
   trade-shares = rw h (shares-most rs (input .id) (sound-s1 rs good))
 
-  pub shares-fit : {s : Shares} → s ≡ shares (pos (t .trade .n1)) → up (s .0) ≤ sharesMost
-  shares-fit e = rw e trade-shares
-
   pub charge-fits : t .trade .n4 ≤ charged .high
   unfolding termsOf view
   charge-fits = rw h (charge-most rs (input .id) (sound-s1 rs good))
@@ -131,11 +129,10 @@ module _ (rs : List Row) (input : Row) {t : Terms} (good : sound rs ≡ true) (h
 
 -- ---- and the values are those of the rules
 module _ (rs : List Row) (input : Row) {t : Terms} (h : t ≡ termsOf rs input) where
-  pub figures-are : {s : Shares} {w : Walk} {x k a b : Cents} {u : Bool} → s ≡ shares (pos (t .trade .n1))
-      → w ≡ made (walk (t .trade .form) (input .n1) (up (s .0))
-      (lotsFor rs (t .trade .form) (t .trade .flags) (t .trade .party) (t .trade .symbol)))
+  pub figures-are : {w : Walk} {x k a b : Cents} {u : Bool} {s : Shares}
+      → w ≡ made (walk (t .trade .form) (input .n1) (t .trade .n1) (lotsOf rs (t .trade)))
       → x ≡ cents (pos (taxOf (t .account .form) (t .rates) (up (w .bought .0)) (up (w .sold .0))))
-      → k ≡ cents (pos (commissionOf (t .rate .0) (up (s .0)) (input .n1)))
+      → s ≡ shares (pos (t .trade .n1)) → k ≡ cents (pos (commissionOf (t .rate .0) (up (s .0)) (input .n1)))
       → a ≡ cents (settlementOf (t .trade .form) (t .account .form) (t .trade .n1 * input .n1) (t .trade .n4)
       (up (k .0)) (up (x .0)))
       → u ≡ untaxed (t .account .form) (t .rates) (up (w .bought .0)) (up (w .sold .0))
@@ -143,4 +140,4 @@ module _ (rs : List Row) (input : Row) {t : Terms} (h : t ≡ termsOf rs input) 
       → _≡_ {A = Figures} (record { walk = w; tax = x; untaxed = u; commission = k; settlement = a; balance = b })
       (figuresOf rs input)
   unfolding termsOf figuresOf view figures
-  figures-are e f g i j l m = rw (m, l, j, i, g, f, e, h)
+  figures-are f g e i j l m = rw (m, l, j, i, e, g, f, h)

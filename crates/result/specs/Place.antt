@@ -6,7 +6,6 @@ use lib.ListN.{getD}
 use Rattle.laws.specs.Search.{place}
 use Rattle.record.specs.Key.{keyOf}
 use Rattle.record.specs.declared.row.Row.{Row}
-use Rattle.model.specs.Lots.{lotsFor}
 use Rattle.model.specs.Rows.{hasKey, nothing}
 
 -- where a row's key stands first
@@ -20,10 +19,6 @@ placed rs w = (spot rs (w .0), w .1)
 -- a row that goes leaves nothing
 abbrev pub frees : List Row → List (Row × Row)
 frees os = map (λ (o : Row). (o, nothing)) os
-
--- the lots that a trade closes, in the order of the walk
-abbrev pub lotsOf : List Row → Row → List Row
-lotsOf rs t = lotsFor rs (t .form) (t .flags) (t .party) (t .symbol)
 
 -- m places of an array, from the one before n downwards
 unfoldable pub span : List ℕ → ℕ → ℕ → List ℕ

@@ -32,8 +32,8 @@ use Rattle.queue.specs.Queue.{Mark, queued}
 use Rattle.shelf.specs.Put.{row-itself, same-rows}
 use Rattle.shelf.specs.Rows.{length-rows}
 use Rattle.tables.specs.Found.{found-again, own-number}
-use Rattle.lots.specs.Lots.{closes-lot, mark}
-use Rattle.result.specs.Place.{lotsOf, span, spot}
+use Rattle.lots.specs.Lots.{closes-lot, lotsOf, mark}
+use Rattle.result.specs.Place.{span, spot}
 
 -- ---- places of an array
 pub span-next : (at : List ℕ) (n m : ℕ) → 0 < m → span at n m ≡ getD at (n - 1) 0 ∷ span at (n - 1) (m - 1)

@@ -17,9 +17,10 @@ ghost use Rattle.queue.specs.Queue.{queueMost};
 ghost use Rattle.shelf.specs.Put.{Free};
 ghost use Rattle.tables.specs.Bucket.{keyBucket};
 ghost use Rattle.tables.specs.Table.{Indexed};
+ghost use Rattle.lots.specs.Lots.{lotsOf};
 ghost use Rattle.result.specs.Add.{Added};
 ghost use Rattle.result.specs.Close.{closed, closingRow, partPut};
-ghost use Rattle.result.specs.Place.{lotsOf, placed, span, spot};
+ghost use Rattle.result.specs.Place.{placed, span, spot};
 ghost use Rattle.result.specs.Places.{lotPlace};
 ghost use Rattle.result.specs.Rows.{closedLots, closingRows, lotChanges};
 use crate::rows::holding;
@@ -76,15 +77,7 @@ pub fn lot_places(
 {
     let mut times = [0; Queue::MOST];
     let mut ids = [0; Queue::MOST];
-    let n = gather(
-        book,
-        trade.form,
-        trade.flags,
-        trade.party,
-        trade.symbol,
-        &mut times,
-        &mut ids,
-    );
+    let n = gather(book, trade, &mut times, &mut ids);
     find_lots(book, keys, &ids, n, at);
     n
 }

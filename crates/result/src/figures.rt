@@ -78,7 +78,7 @@ pub fn terms_of(
         account,
         summary: summary_row(book, keys, trade.party, trade.symbol),
         rates: rates(book, keys, account.n2),
-        rate: rate(book, keys, trade.form, tier, exchange, trade.n1),
+        rate: rate(book, keys, trade, tier, exchange),
     }
 }
 
@@ -117,17 +117,15 @@ pub fn figured(book: &[u8], keys: &[u16; Slots::ALL], input: Row, terms: Terms) 
     ensures { λ r. ⌜ up (r .commission .0) ≤ fee .high ⌝ }
 {
     let t = terms.trade;
-    let status = terms.account.form;
     let price = Price(input.n1);
-    let count = shares(t.n1 as u64);
-    let w = walk(book, keys, t.form, t.flags, t.party, t.symbol, price, count);
-    let levy = tax(status, terms.rates, w.bought, w.sold);
-    let fee = commission(terms.rate, count, price);
-    let amount = settlement(t, status, price, fee, levy);
+    let w = walk(book, keys, t, price);
+    let levy = tax(terms.account.form, terms.rates, w.bought, w.sold);
+    let fee = commission(terms.rate, shares(t.n1 as u64), price);
+    let amount = settlement(t, terms.account.form, price, fee, levy);
     Figures {
         walk: w,
         tax: levy,
-        untaxed: untaxed(status, terms.rates, w.bought, w.sold),
+        untaxed: untaxed(terms.account.form, terms.rates, w.bought, w.sold),
         commission: fee,
         settlement: amount,
         balance: balance(t, terms.account, amount),

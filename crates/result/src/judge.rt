@@ -72,29 +72,12 @@ fn own_rows(trade: Row, summary: Row, left: u64) -> usize
     opened + fresh + 2 + either(is_cash(trade.flags), 1, 0)
 }
 
-fn rows_added(
-    book: &[u8],
-    keys: &[u16; Slots::ALL],
-    trade: Row,
-    summary: Row,
-    left: Shares,
-) -> usize
+fn rows_added(book: &[u8], keys: &[u16; Slots::ALL], terms: Terms, left: Shares) -> usize
     requires { ⌜ Indexed keyBucket (now book) (now keys) 0 ⌝ }
     requires { ⌜ s2 (rows (now book)) ≡ true ⌝ }
-    ensures { λ r. ⌜ r ≡ rowsAdded (rows (now (book .entry))) trade summary (up (left .0)) ⌝ }
+    ensures { λ r. ⌜ r ≡ rowsAdded (rows (now (book .entry))) (terms .trade) (terms .summary) (up (left .0)) ⌝ }
 {
-    let form = trade.form;
-    let shares = trade.n1 as u64;
-    let lots = closed(
-        book,
-        keys,
-        form,
-        trade.flags,
-        trade.party,
-        trade.symbol,
-        shares,
-    );
-    lots + own_rows(trade, summary, in_shares(left))
+    closed(book, keys, terms.trade) + own_rows(terms.trade, terms.summary, in_shares(left))
 }
 
 pub fn judge(book: &[u8], keys: &[u16; Slots::ALL], terms: Terms, figures: Figures) -> Status
@@ -116,8 +99,7 @@ pub fn judge(book: &[u8], keys: &[u16; Slots::ALL], terms: Terms, figures: Figur
     }
     let broker = party_row(book, keys, Kind::BROKER, terms.account.n1);
     if in_range(broker, figures) {
-        let left = figures.walk.need;
-        if room(book) < rows_added(book, keys, terms.trade, terms.summary, left) {
+        if room(book) < rows_added(book, keys, terms, figures.walk.need) {
             return Status::NoRoom;
         }
         return Status::Done;

@@ -7,7 +7,7 @@ use Rattle.result.proofs.judge.judge.Tie as tie
 rows-added-requires : tie.Need-rows-added-requires
 rows-added-requires c κs =
     let passed = c .before .before .before .before .before .before .before .before .before .before in
-    let pre = passed .before .before .before .pre in
+    let pre = passed .before .before .pre in
     (pre .0, pre .1 .0)
 
 pub judge-spec : {M : Type 1} → statement M

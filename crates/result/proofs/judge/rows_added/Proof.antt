@@ -12,7 +12,6 @@ pub rows-added-spec : {M : Type 1} → statement M
 rows-added-spec =
     tie.close
     (tie.spec
-    (λ c. search needs)
     (λ c κs. search needs)
     (λ c κs. search needs)
     (λ c κs. search needs)
