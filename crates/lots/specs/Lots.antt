@@ -39,7 +39,7 @@ same-order : (last : Bool) (a b : Row) → before last a b ≡ ordered last (mar
 unfolding sooner
 same-order last a b = refl
 
--- the lots that a trade closes, before and in the order of the walk
+-- the lots that a trade closes, in the order of the book and in that of the walk
 abbrev closedBy : List Row → Row → List Row
 closedBy rs t = keep (closes (t .form) (t .party) (t .symbol)) rs
 

@@ -8,8 +8,7 @@ use Rattle.lots.proofs.lots.closed.Statement.{statement}
 use Rattle.lots.proofs.lots.closed.Tie as tie
 
 abbrev Inv-loop : tie.InvT-loop
-Inv-loop book keys ids n₀ need₀ many₀ n need many =
-    Counting (rows book) ids n₀ need₀ n need many
+Inv-loop book keys ids n₀ need₀ many₀ n need many = Counting (rows book) ids n₀ need₀ n need many
 
 abbrev μ-loop : tie.MeasureT-loop
 μ-loop book keys ids n₀ need₀ many₀ n need many = n

@@ -11,8 +11,7 @@ use Rattle.lots.proofs.lots.walk.Statement.{statement}
 use Rattle.lots.proofs.lots.walk.Tie as tie
 
 abbrev Inv-loop : tie.InvT-loop
-Inv-loop book keys trade price ids n₀ w₀ n w =
-    Walking (trade .form) (price .0) (rows book) ids n₀ w₀ n w
+Inv-loop book keys trade price ids n₀ w₀ n w = Walking (trade .form) (price .0) (rows book) ids n₀ w₀ n w
 
 abbrev μ-loop : tie.MeasureT-loop
 μ-loop book keys trade price ids n₀ w₀ n w = n
@@ -43,11 +42,9 @@ returns c =
     let inv = c .before .loop .inv in
     let first = c .before .before .before .before .before .before .before in
     let start = c .before .before .start .ensures in
+    let gathered = c .before .before .before .gather .ensures .0 in
     let a = first .args in
-    let all =
-    walk-all (a .trade) (a .price .0) _ _ _ _ (first .pre .1 .0 .1)
-    (c .before .before .before .gather .ensures .0) start
-    in
+    let all = walk-all (a .trade) (a .price .0) _ _ _ _ (first .pre .1 .0 .1) gathered start in
     (walk-end inv (c .loop-test .left) ∙ ap made all, rw start at (inv .room))
 
 pub walk-spec : {M : Type 1} → statement M
