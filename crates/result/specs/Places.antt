@@ -13,7 +13,7 @@ use Rattle.laws.specs.Keep.{keep-every, keep-from}
 use Rattle.laws.specs.Place.{the-place}
 use Rattle.laws.specs.Search.{every, keep, means-every, place}
 use Rattle.laws.specs.Sort.{every-sort}
-use Rattle.laws.specs.Tests.{_⇔_, and-both, and-left, and-right}
+use Rattle.laws.specs.Tests.{and-both, and-left, and-right}
 use Rattle.laws.specs.Walk.{from-high}
 use Rattle.record.specs.Codes.{kindLot}
 use Rattle.record.specs.Key.{keyOf}
