@@ -1,6 +1,6 @@
 -- The status of an order, told from what it read and worked out, and the laws of the code that comes to it. It is the
 -- status of the rules. Assumes nothing.
-use mathlib.Core.Path.{_≡_, refl, sym, ap, _∙_}
+use mathlib.Core.Path.{_≡_, refl, ap, _∙_}
 use mathlib.Core.Bool.{Bool, true, false, cond}
 use mathlib.Core.List.{List, [], _∷_}
 use Prim.Native.Nat.{ℕ, suc, _≤_, _<_}
@@ -9,7 +9,6 @@ use lib.ListN.{length}
 use borrow.Author.Tests.{eq-eqb, le-leb, lt-leb, ne-eqb}
 use Rattle.laws.specs.Change.{fill, puts, written}
 use Rattle.record.specs.Codes.{kindFree, tms}
-use Rattle.record.specs.Signed.{up}
 use Rattle.record.specs.declared.row.Row.{Row}
 use Rattle.rules.specs.Ranges.{tradeNumber}
 use Rattle.model.specs.declared.Status.{Status}
@@ -17,15 +16,14 @@ use Rattle.model.specs.declared.Status.the-variants.{Done, NoRoom, OrderNoAccou
 use Rattle.model.specs.declared.Status.the-variants.{OrderNoSecurity, OrderNoTax, OverLimit}
 use Rattle.model.specs.Call.{isDone}
 use Rattle.model.specs.Flags.{rollBack}
-use Rattle.model.specs.Money.{commissionOf}
-use Rattle.model.specs.Order.{View, atMarket, finish, order, plan, posting, priceUsed, view}
+use Rattle.model.specs.Order.{View, atMarket, finish, order, plan, posting, view}
 use Rattle.model.specs.Plan.{Outcome, accepted, checked, finished, limited, pick, post, posted, refuse, refused, room}
 use Rattle.model.specs.Rows.{is, nothing, sameRow}
 use Rattle.lots.specs.Terms.{some}
 use Rattle.order.specs.declared.estimate.Estimate.{Estimate}
 use Rattle.order.specs.declared.estimate.Terms.{Terms}
 use Rattle.order.specs.Estimate.{estimateSeen, estimated, termsOf, termsSeen}
-use Rattle.order.specs.Post.{addedRows, answerRow}
+use Rattle.order.specs.Post.{addedRows, answerOf, rowsAfter}
 
 -- a trade and its history, and for an order that waits its request
 abbrev pub rowsAdded : Row → ℕ
@@ -49,32 +47,6 @@ judged rs input t e =
     (cond (e .untaxed) OrderNoTax
     (cond (eqb (t .rate .0) 0) OrderNoRate
     (cond (eqb (t .charge) 0) OrderNoCharge (lastStatus rs input (t .number .0))))))
-
-unfoldable pub answerOf : Terms → Estimate → Row
-answerOf t e =
-    answerRow (t .number .0) (up (e .tax .0)) (t .charge) (t .rate .0) (e .price .0) (up (e .walk .bought .0))
-    (up (e .walk .sold .0))
-
--- the rows of an order that is done
-unfoldable pub rowsAfter : List Row → Row → Terms → Estimate → List Row
-rowsAfter rs input t e =
-    cond (rollBack (input .flags)) rs
-    (fill sameRow nothing
-    (addedRows input (t .account .n1) (t .number .0) (e .price .0) (t .charge) (up (e .commission .0))) rs)
-
-module _ (rs : List Row) (input : Row) (t : Terms) (e : Estimate) where
-  pub rolled-back : {x : Bool} → x ≡ rollBack (input .flags) → x ≡ true → rs ≡ rowsAfter rs input t e
-  unfolding rowsAfter
-  rolled-back r h = rw (sym r ∙ h)
-
-  pub rows-posted : {x : Bool} {k : ℕ} {rs′ : List Row} → x ≡ rollBack (input .flags) → x ≡ false
-      → k ≡ up (e .commission .0)
-      → rs′
-      ≡ fill sameRow nothing
-      (addedRows input (t .account .n1) (t .number .0) (e .price .0) (t .charge) k) rs
-      → rs′ ≡ rowsAfter rs input t e
-  unfolding rowsAfter
-  rows-posted r h c q = q ∙ rw (c, sym r ∙ h)
 
 -- ---- the tests in turn
 module _ (rs : List Row) (input : Row) (t : Terms) (e : Estimate) where
@@ -152,9 +124,7 @@ module _ (rs : List Row) (input : Row) (v : View) where
   decided = finish rs input (v .number) (plan input v)
 
   abbrev added : List Row
-  added =
-      addedRows input (v .account .n1) (v .number) (priceUsed input v) (v .charge)
-      (commissionOf (v .rate) (input .n1) (priceUsed input v))
+  added = addedRows input t e
 
   -- what an order that is done gives
   abbrev ordered : Outcome

@@ -16,8 +16,8 @@ use Rattle.shelf.specs.Rows.{putAt}
 use Rattle.order.specs.declared.estimate.Estimate.{Estimate}
 use Rattle.order.specs.declared.estimate.Terms.{Terms}
 use Rattle.order.specs.Estimate.{estimated, termsOf}
-use Rattle.order.specs.Judge.{answerOf, judged, judged-outcome, judged-refused, judged-status, orderStatus}
-use Rattle.order.specs.Judge.{rowsAfter}
+use Rattle.order.specs.Judge.{judged, judged-outcome, judged-refused, judged-status, orderStatus}
+use Rattle.order.specs.Post.{answerOf, rowsAfter}
 
 module _ (b a : List ℕ) (input : Row) {t : Terms} {e : Estimate} {s : Status} {x : Bool}
     (read : t ≡ termsOf (rows b) input) (reckoned : e ≡ estimated (rows b) input)

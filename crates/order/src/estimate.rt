@@ -26,6 +26,7 @@ use record::codes::Kind;
 use record::codes::TradeType;
 use record::key::Key;
 use record::row::Row;
+use shelf::place::nothing;
 use shelf::place::row_at;
 use shelf::search::find;
 use shelf::search::largest;
@@ -56,18 +57,11 @@ pub struct Estimate {
 fn charge(book: &[u8], form: u8, tier: u8) -> u32
     ensures { λ r. ⌜ r ≡ found (aCharge form tier) (rows (now (book .entry))) .n1 ⌝ }
 {
-    let key = Key {
-        kind: Kind::CHARGE,
-        form,
-        status: tier,
-        flags: 0,
-        party: 0,
-        id: 0,
-        symbol: 0,
-        n1: 0,
-        m2: 0,
-    };
-    row_at(book, find(book, key)).n1
+    let mut row = nothing();
+    row.kind = Kind::CHARGE;
+    row.form = form;
+    row.status = tier;
+    row_at(book, find(book, Key::of(row))).n1
 }
 
 // The number that the next trade gets.

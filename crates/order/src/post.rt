@@ -1,10 +1,13 @@
 // The rows that an order adds to the book, and its answer.
 ghost use mathlib.Core.Path.{_≡_};
-ghost use Rattle.laws.specs.Change.{fill};
+ghost use Rattle.model.specs.Flags.{rollBack};
 ghost use Rattle.model.specs.Order.{firstStatus};
-ghost use Rattle.model.specs.Rows.{nothing, rows, sameRow};
+ghost use Rattle.model.specs.Rows.{rows};
 ghost use Rattle.shelf.specs.Put.{Free};
-ghost use Rattle.order.specs.Post.{addedRows, answerRow, historyRow, requestRow, tradeRow};
+ghost use Rattle.order.specs.Post.{answerOf, requestRow, rowsAfter, tradeRow};
+use crate::estimate::Estimate;
+use crate::estimate::Terms;
+use lots::units::in_cents;
 use record::codes::Kind;
 use record::codes::TradeStatus;
 use record::codes::TradeType;
@@ -25,8 +28,8 @@ fn first_status(input: Row) -> u8
 }
 
 // Its flags are cash and LIFO: roll back is the order's alone.
-fn trade_row(input: Row, number: u64, price: u32, charge: u32, commission: u64) -> Row
-    ensures { λ r. ⌜ r ≡ tradeRow input number price charge commission ⌝ }
+fn trade_row(input: Row, terms: Terms, estimate: Estimate) -> Row
+    ensures { λ r. ⌜ r ≡ tradeRow input terms estimate ⌝ }
 {
     let mut t = nothing();
     t.kind = Kind::TRADE;
@@ -34,80 +37,67 @@ fn trade_row(input: Row, number: u64, price: u32, charge: u32, commission: u64) 
     t.status = first_status(input);
     t.flags = input.flags % 4;
     t.party = input.party;
-    t.id = number;
+    t.id = terms.number.0;
     t.symbol = input.symbol;
     t.n1 = input.n1;
-    t.n2 = price;
-    t.n4 = charge;
-    t.m1 = commission;
+    t.n2 = estimate.price.0;
+    t.n4 = terms.charge;
+    t.m1 = in_cents(estimate.commission);
     t.time = input.time;
     t
 }
 
-fn history_row(input: Row, number: u64) -> Row
-    ensures { λ r. ⌜ r ≡ historyRow input number ⌝ }
-{
-    history(first_status(input), number, input.time)
-}
-
-fn request_row(input: Row, broker: u32, number: u64, price: u32) -> Row
-    ensures { λ r. ⌜ r ≡ requestRow input broker number price ⌝ }
+fn request_row(input: Row, terms: Terms, estimate: Estimate) -> Row
+    ensures { λ r. ⌜ r ≡ requestRow input terms estimate ⌝ }
 {
     let mut q = nothing();
     q.kind = Kind::REQUEST;
     q.form = input.form;
-    q.party = broker;
-    q.id = number;
+    q.party = terms.account.n1;
+    q.id = terms.number.0;
     q.symbol = input.symbol;
     q.n1 = input.n1;
-    q.n2 = price;
+    q.n2 = estimate.price.0;
     q
 }
 
-pub fn answer_row(
-    number: u64,
-    tax: u64,
-    charge: u32,
-    rate: u32,
-    price: u32,
-    bought: u64,
-    sold: u64,
-) -> Row
-    ensures { λ r. ⌜ r ≡ answerRow number tax charge rate price bought sold ⌝ }
+// The answer of an order that is done, posted or rolled back.
+pub fn answer_row(terms: Terms, estimate: Estimate) -> Row
+    ensures { λ r. ⌜ r ≡ answerOf terms estimate ⌝ }
 {
     let mut a = nothing();
     a.kind = Kind::ORDER;
-    a.id = number;
-    a.symbol = in_symbol(tax);
-    a.n1 = charge;
-    a.n2 = rate;
-    a.n3 = price;
-    a.m1 = bought;
-    a.m2 = sold;
+    a.id = terms.number.0;
+    a.symbol = in_symbol(in_cents(estimate.tax));
+    a.n1 = terms.charge;
+    a.n2 = terms.rate.0;
+    a.n3 = estimate.price.0;
+    a.m1 = in_cents(estimate.walk.bought);
+    a.m2 = in_cents(estimate.walk.sold);
     a
 }
 
-// The trade, its history, and for an order that waits its request, in the places that are free, lowest first.
-pub fn post(
-    book: &mut [u8],
-    input: Row,
-    broker: u32,
-    number: u64,
-    price: u32,
-    charge: u32,
-    commission: u64,
-)
-    requires { ⌜ Free (now book) 0 ⌝ }
-    ensures { λ _.
-        ⌜ rows (now (book .exit))
-        ≡ fill sameRow nothing (addedRows input broker number price charge commission) (rows (now (book .entry))) ⌝ }
+fn rolls_back(flags: u8) -> bool
+    ensures { λ r. ⌜ r ≡ rollBack flags ⌝ }
 {
-    let trade = trade_row(input, number, price, charge, commission);
-    let past = history_row(input, number);
+    flags / 4 % 2 == 1
+}
+
+// The trade, its history, and for an order that waits its request, in the places that are free, lowest first; nothing
+// for an order that is rolled back.
+pub fn post(book: &mut [u8], input: Row, terms: Terms, estimate: Estimate)
+    requires { ⌜ Free (now book) 0 ⌝ }
+    ensures { λ _. ⌜ rows (now (book .exit)) ≡ rowsAfter (rows (now (book .entry))) input terms estimate ⌝ }
+{
+    if rolls_back(input.flags) {
+        return;
+    }
+    let trade = trade_row(input, terms, estimate);
+    let past = history(trade.status, trade.id, trade.time);
     let next = add(book, 0, trade);
     let last = add(book, next, past);
     if input.form <= TradeType::TMS {
         return;
     }
-    add(book, last, request_row(input, broker, number, price));
+    add(book, last, request_row(input, terms, estimate));
 }

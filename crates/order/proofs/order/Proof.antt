@@ -19,8 +19,8 @@ estimated-requires c κs =
     let pre = c .before .before .before .before .before .pre in
     (pre .0, ((pre .1 .1 .0 .0, pre .1 .1 .1 .0), c .before .terms-of .ensures))
 
-commit-requires : tie.Need-commit-requires
-commit-requires c κs =
+post-requires : tie.Need-post-requires
+post-requires c κs =
     let estimated = c .before .before .before .before .before in
     let start = estimated .before .before .before .before .before .before in
     free-start _ (sound-s1 _ (start .pre .1 .1 .0 .0))
@@ -35,12 +35,12 @@ returns c =
     let estimated = judged .before .before in
     let read = estimated .before .before in
     let start = read .before .before .before .before in
-    let same : length (posted .commit .last .0) ≡ length (start .args .book .now) = search needs in
+    let same : length (posted .post .last .0) ≡ length (start .args .book .now) = search needs in
     let done =
     order-done _ _ (start .args .input) (read .terms-of .ensures) (estimated .estimated .ensures)
-    (judged .judge .ensures) (test .before .done .ensures) _ (test .if1 .taken) (posted .commit .ensures)
+    (judged .judge .ensures) (test .before .done .ensures) _ (test .if1 .taken) (posted .post .ensures)
     (start .pre .1 .1 .0 .1) same (λ i. known .slice-known3 .given i .fits) (start .pre .1 .1 .1 .1)
-    (put .before .answered .ensures) (put .put .ensures .0)
+    (put .before .answer-row .ensures) (put .put .ensures .0)
     in
     (done .0, (done .1, done .2))
 
@@ -64,7 +64,7 @@ order-spec =
     estimated-requires
     (λ c κs. search needs)
     (λ c κs. search needs)
-    commit-requires
+    post-requires
     (λ c κs. search needs)
     (λ c κs. search needs)
     (λ c. search needs)
