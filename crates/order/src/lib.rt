@@ -49,7 +49,6 @@ pub fn order(
     if done(s) {
         post(book, input, terms, estimate);
         put(answer, 0, answer_row(terms, estimate));
-        return s;
     }
     s
 }

@@ -96,8 +96,7 @@ pub fn post(book: &mut [u8], input: Row, terms: Terms, estimate: Estimate)
     let past = history(trade.status, trade.id, trade.time);
     let next = add(book, 0, trade);
     let last = add(book, next, past);
-    if input.form <= TradeType::TMS {
-        return;
+    if TradeType::TMS < input.form {
+        add(book, last, request_row(input, terms, estimate));
     }
-    add(book, last, request_row(input, terms, estimate));
 }
