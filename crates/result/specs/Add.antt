@@ -8,12 +8,15 @@ use lib.IntN.{ℤ, pos}
 use borrow.Author.Tests.{eq-eqb, ne-eqb}
 use Rattle.laws.specs.Change.{fill, fill-append}
 use Rattle.record.specs.Codes.{kindFree}
+use Rattle.record.specs.Signed.{up}
 use Rattle.record.specs.declared.row.Row.{Row}
 use Rattle.model.specs.Flags.{cash}
 use Rattle.model.specs.Result.{signed}
 use Rattle.model.specs.Rows.{is, nothing, rows, sameRow}
 use Rattle.shelf.specs.Put.{Free, free-add}
 use Rattle.shelf.specs.Rows.{after, freeFrom}
+use Rattle.result.specs.declared.figures.Figures.{Figures}
+use Rattle.result.specs.declared.figures.Terms.{Terms}
 use Rattle.result.specs.Rows.{cashRow, finalRows, lotHistory, newLot, newSummary, openingRows, settlementRow}
 use Rattle.result.specs.Rows.{summaryRows, summedShares, tradeHistory}
 
@@ -97,11 +100,17 @@ module _ (t : Row) (amount : ℤ) (time : ℕ) {b : List ℕ} {from : ℕ} (f : 
       subst (λ (x : Bool). Added (final x) b b₃ end) (sym k ∙ e) (more two refl r-is r-next r-put)
 
 -- ---- all of them
-pub own-added : (t summary : Row) (price left : ℕ) (amount : ℤ) (time : ℕ) {b b₁ b₂ b₃ : List ℕ} {next last end : ℕ}
-    → Added (openingRows t price left time) b b₁ next → Added (summaryRows t summary) b₁ b₂ last
-    → Added (finalRows t amount time) b₂ b₃ end
-    → Added (openingRows t price left time ++ summaryRows t summary ++ finalRows t amount time) b b₃ end
-own-added t summary price left amount time o s f =
-    let os = openingRows t price left time in
-    let ss = summaryRows t summary in
-    added-then {hs = os ++ ss} (added-then {hs = os} {ks = ss} o s) f
+abbrev pub ownAdded : Row → Terms → Figures → List Row
+ownAdded input t f =
+    openingRows (t .trade) (input .n1) (up (f .walk .need .0)) (input .time) ++ summaryRows (t .trade) (t .summary)
+    ++ finalRows (t .trade) (f .settlement .0) (input .time)
+
+pub own-added : (input : Row) (t : Terms) (f : Figures) {b b₁ b₂ b₃ : List ℕ} {next last end left : ℕ}
+    → left ≡ up (f .walk .need .0)
+    → Added (openingRows (t .trade) (input .n1) left (input .time)) b b₁ next
+    → Added (summaryRows (t .trade) (t .summary)) b₁ b₂ last
+    → Added (finalRows (t .trade) (f .settlement .0) (input .time)) b₂ b₃ end → Added (ownAdded input t f) b b₃ end
+own-added input t f e o s l =
+    let os = openingRows (t .trade) (input .n1) (up (f .walk .need .0)) (input .time) in
+    let ss = summaryRows (t .trade) (t .summary) in
+    added-then {hs = os ++ ss} (added-then {hs = os} {ks = ss} (rw e at o) s) l

@@ -1,14 +1,15 @@
 -- The rows that a result changes or frees, by the places where they stood at entry; and how the code comes to them.
 -- Assumes nothing.
-use mathlib.Core.Path.{_≡_, sym, ap, _∙_}
+use mathlib.Core.Path.{_≡_, refl, sym, ap, _∙_}
 use mathlib.Core.Bool.{Bool, true, false, cond, not, _&&_}
 use mathlib.Core.List.{List, [], _∷_, _++_}
 use Prim.Native.Nat.{ℕ, suc, _^_, _<_}
 use native.Mathlib.Omega.{arith}
+use lib.Dec.{eqb}
 use lib.IntN.{ℤ, pos, negsuc}
 use lib.ListN.{set}
 use lib.Signed.{mag}
-use borrow.Author.Tests.{eq-eqb, ne-eqb}
+use borrow.Author.Tests.{eqb-false, eqb-true, ne-eqb}
 use mir.Syntax.{w64}
 use mir.Val.{ofZ}
 use Rattle.laws.specs.Change.{sets, sets-append}
@@ -62,19 +63,20 @@ pub set-one : (c : Bool) (at : ℕ) (n : Row) (l : List Row) {r : Row} {l′ : L
 unfolding sets
 set-one c at n l e f q = rw e (q ∙ rw f)
 
--- ---- a summary that is there, and one that comes to zero
-pub not-held : (s : Row) (x : Bool) → s .kind ≡ kindFree → (not (is kindFree s) && x) ≡ false
-not-held s x e = rw (eq-eqb (s .kind) kindFree e)
-
-pub held : (s : Row) {x y : Bool} → (s .kind ≡ kindFree → ⊥) → x ≡ y → (not (is kindFree s) && x) ≡ y
-held s e f = rw (ne-eqb (s .kind) kindFree e) f
-
-pub gone-at : (z : ℤ) → mag z < 2 ^ 63 → ofZ w64 z ≡ 0 → gone z ≡ true
+-- ---- a summary that comes to zero
+gone-at : (z : ℤ) → mag z < 2 ^ 63 → ofZ w64 z ≡ 0 → gone z ≡ true
 gone-at z h e = let q : pos 0 ≡ z = rw e at (got64 z h) in rw (← q)
 
-pub not-gone : (z : ℤ) → (ofZ w64 z ≡ 0 → ⊥) → gone z ≡ false
+not-gone : (z : ℤ) → (ofZ w64 z ≡ 0 → ⊥) → gone z ≡ false
 not-gone (pos n) e = ne-eqb n 0 (λ q. e (rw q))
 not-gone (negsuc n) e = ne-eqb (suc n) 0 (λ q. omega arith)
+
+pub gone-is : (z : ℤ) → mag z < 2 ^ 63 → eqb (ofZ w64 z) 0 ≡ gone z
+gone-is z h = go (eqb (ofZ w64 z) 0) refl
+  where
+    go : (x : Bool) → eqb (ofZ w64 z) 0 ≡ x → x ≡ gone z
+    go true e = sym (gone-at z h (eqb-true (ofZ w64 z) 0 e))
+    go false e = sym (not-gone z (eqb-false (ofZ w64 z) 0 e))
 
 -- ---- all changes in turn
 pub changed : (at : Places) (input : Row) (t : Terms) (f : Figures) (broker : Row) (b b₁ b₂ b₃ b₄ : List ℕ) {x y : Row}

@@ -1,6 +1,6 @@
 -- The rows that a result leaves, as the code comes to them: what it adds, and then what it changes and frees, each at
 -- the place where it stood. Assumes nothing.
-use mathlib.Core.Path.{_≡_, refl, sym, ap, ap₂, _∙_}
+use mathlib.Core.Path.{_≡_, refl, sym, ap, _∙_}
 use mathlib.Core.Bool.{Bool, true, false, cond, false≢true, not, _&&_}
 use mathlib.Core.List.{List, [], _∷_, _++_, map, map-append}
 use Prim.Native.Nat.{ℕ, _+_, _≤_}
@@ -30,7 +30,7 @@ use Rattle.shelf.specs.Put.{found-has}
 use Rattle.result.specs.declared.change.Places.{Places}
 use Rattle.result.specs.declared.figures.Figures as code
 use Rattle.result.specs.declared.figures.Terms.{Terms}
-use Rattle.result.specs.Add.{Added}
+use Rattle.result.specs.Add.{Added, ownAdded}
 use Rattle.result.specs.Apart.{found-kind, found-live, found-member, named-there, names-account, names-broker}
 use Rattle.result.specs.Close.{closed}
 use Rattle.result.specs.Judge.{Passed, inRange, resultRows}
@@ -38,8 +38,7 @@ use Rattle.result.specs.Posted.{posted-by-place}
 use Rattle.result.specs.Figures.{figuresOf, termsOf, trade-shares}
 use Rattle.result.specs.Change.{accountPut, changePuts, placesOf, summaryFree, summaryPut}
 use Rattle.result.specs.Place.{frees, placed, spot}
-use Rattle.result.specs.Rows.{accountChanges, brokerAfter, closedLots, closingRows, finalRows, gone, holding}
-use Rattle.result.specs.Rows.{lotChanges, openingRows, summaryRows}
+use Rattle.result.specs.Rows.{accountChanges, brokerAfter, closedLots, closingRows, gone, holding, lotChanges}
 use Rattle.result.specs.Rows.{summaryChanges, summaryGone, summedShares, tradeAfter}
 
 -- ---- a row that is found stands where its key does
@@ -133,15 +132,15 @@ module _ (rs : List Row) (input : Row) (v : View) (f : Figures) (k : Key) where
 -- ---- what the code needs of a result that it posts
 module _ (rs : List Row) (input : Row) {t : Terms} {f : code.Figures} (good : sound rs ≡ true)
     (right : resultInput input ≡ true) (read : t ≡ termsOf rs input) (reckoned : f ≡ figuresOf rs input) where
-  pub left-fits : {left : ℕ} → left ≡ up (f .walk .need .0) → left ≤ sharesMost
+  pub left-fits : up (f .walk .need .0) ≤ sharesMost
   unfolding figuresOf termsOf figures walk
-  left-fits e =
+  left-fits =
       let v = view rs input in
       let t = v .trade in
       let all = all-shares (t .form) (input .n1) (start (t .n1)) (v .lots) in
       let most : t .n1 ≤ sharesMost = trade-shares rs input good refl in
       let fits : run (step (t .form) (input .n1)) (start (t .n1)) (v .lots) .need ≤ sharesMost = omega arith in
-      rw (e, reckoned) fits
+      rw reckoned fits
 
   pub time-fits : input .time ≤ time .high
   time-fits = means-result-input input .shows right .2 .2 .2 .2 .2 .2 .2 .2 .2 .2 .2 .2 .2 .1
@@ -167,20 +166,14 @@ module _ (b : List ℕ) (input : Row) (good : sound (rows b) ≡ true) where
   abbrev rs : List Row
   rs = rows b
 
-  abbrev own : Terms → code.Figures → ℕ → List Row
-  own t f left =
-      openingRows (t .trade) (input .n1) left (input .time) ++ summaryRows (t .trade) (t .summary)
-      ++ finalRows (t .trade) (f .settlement .0) (input .time)
-
   pub all-posted : (t : Terms) (f : code.Figures) → t ≡ termsOf rs input → f ≡ figuresOf rs input → Passed rs t f
       → {at : Places} → at ≡ placesOf rs (input .id) (t .trade) (t .account)
       → {broker : Row} → broker ≡ found (aBroker (t .account .n1)) rs
-      → (b₁ b₂ b₃ b₄ b₅ b₆ : List ℕ) {part : List (ℕ × Row)} {ps : List ℕ} {next last left : ℕ}
+      → (b₁ b₂ b₃ b₄ b₅ b₆ : List ℕ) {part : List (ℕ × Row)} {ps : List ℕ} {next last : ℕ}
       → Added (closingRows (t .trade) (closed rs (t .trade))) b b₁ next
       → part ≡ map (placed rs) (lotChanges (t .trade) (closed rs (t .trade)))
       → ps ≡ map (spot rs) (closedLots (closed rs (t .trade)))
-      → left ≡ up (f .walk .need .0)
-      → Added (own t f left) b₁ b₂ last
+      → Added (ownAdded input t f) b₁ b₂ last
       → rows b₃ ≡ sets part (rows b₂)
       → rows b₄ ≡ sets (changePuts at input t f broker) (rows b₃)
       → rows b₅ ≡ sets (map (λ (p : ℕ). (p, nothing)) ps) (rows b₄)
@@ -189,8 +182,8 @@ module _ (b : List ℕ) (input : Row) (good : sound (rows b) ≡ true) where
   unfolding termsOf figuresOf resultRows view posting
   all-posted t f read reckoned =
       rw (read, reckoned)
-      (λ p at at-is broker broker-is b₁ b₂ b₃ b₄ b₅ b₆ part ps next last left first part-is ps-is left-is second third
-      fourth fifth sixth.
+      (λ p at at-is broker broker-is b₁ b₂ b₃ b₄ b₅ b₆ part ps next last first part-is ps-is second third fourth
+      fifth sixth.
       let v = view rs input in
       let g = figures input v in
       let tk = aTrade (input .id) in
@@ -207,7 +200,7 @@ module _ (b : List ℕ) (input : Row) (good : sound (rows b) ≡ true) where
       named-there rs good (v .account) bk _ a-held (names-broker (v .account) (found-kind rs ak a-there))
       in
       let added : rows b₂ ≡ fill sameRow nothing (posting input v g .added) rs =
-      second .filled ∙ rw (first .filled, left-is)
+      second .filled ∙ rw (first .filled)
       (regrouped (closingRows (v .trade) (closed rs (v .trade))) _ _ _ rs)
       in
       sixth ∙ rw (fifth, fourth, third, added, at-is, broker-is)

@@ -1,14 +1,16 @@
 // The rows that a result adds beside those of its lots, in the places that are free, lowest first.
-ghost use mathlib.Core.List.{_++_};
 ghost use Prim.Native.Nat.{_≤_};
 ghost use lib.IntN.{natAbs};
 ghost use mir.Syntax.{w64};
 ghost use mir.Val.{toZ};
+ghost use Rattle.record.specs.Signed.{up};
 ghost use Rattle.rules.specs.Ranges.{moneyMost, sharesMost};
 ghost use Rattle.rules.specs.Ranges;
 ghost use Rattle.shelf.specs.Put.{Free};
-ghost use Rattle.result.specs.Add.{Added};
+ghost use Rattle.result.specs.Add.{Added, ownAdded};
 ghost use Rattle.result.specs.Rows.{finalRows, openingRows, summaryRows};
+use crate::figures::Figures;
+use crate::figures::Terms;
 use crate::figures::is_cash;
 use crate::rows::cash_row;
 use crate::rows::lot_history;
@@ -20,6 +22,7 @@ use crate::signed::traded;
 use kinds::units::Cents;
 use kinds::units::Price;
 use kinds::units::Shares;
+use lots::units::in_shares;
 use record::codes::Kind;
 use record::codes::TradeStatus;
 use record::row::Row;
@@ -36,11 +39,8 @@ fn add_opened(book: &mut [u8], from: usize, trade: Row, price: Price, left: u64,
         return from;
     }
     let count = Shares(traded(trade.form, left));
-    let next = add(
-        book,
-        from,
-        lot_history(trade.id, trade.id, Shares(0), count),
-    );
+    let opened = lot_history(trade.id, trade.id, Shares(0), count);
+    let next = add(book, from, opened);
     add(book, next, new_lot(trade, price, count, time))
 }
 
@@ -74,23 +74,15 @@ fn add_final(book: &mut [u8], from: usize, trade: Row, amount: Cents, time: u32)
 }
 
 // All of them. The answer is where the next search for a free place begins.
-pub fn add_own(
-    book: &mut [u8],
-    from: usize,
-    trade: Row,
-    summary: Row,
-    price: Price,
-    left: u64,
-    amount: Cents,
-    time: u32,
-) -> usize
+pub fn add_own(book: &mut [u8], from: usize, input: Row, terms: Terms, figures: Figures) -> usize
     requires { ⌜ Free (now book) from ⌝ }
-    requires { ⌜ (natAbs (toZ w64 (summary .m1)) ≤ moneyMost) × (trade .n1 ≤ sharesMost) ⌝ }
-    requires { ⌜ (left ≤ sharesMost) × (time ≤ Ranges.time .high) ⌝ }
-    ensures { λ r. ⌜ Added (openingRows trade (price .0) left time ++ summaryRows trade summary
-        ++ finalRows trade (amount .0) time) (now (book .entry)) (now (book .exit)) r ⌝ }
+    requires { ⌜ (natAbs (toZ w64 (terms .summary .m1)) ≤ moneyMost) × (terms .trade .n1 ≤ sharesMost) ⌝ }
+    requires { ⌜ (up (figures .walk .need .0) ≤ sharesMost) × (input .time ≤ Ranges.time .high) ⌝ }
+    ensures { λ r. ⌜ Added (ownAdded input terms figures) (now (book .entry)) (now (book .exit)) r ⌝ }
 {
-    let next = add_opened(book, from, trade, price, left, time);
-    let last = add_summary(book, next, trade, summary);
-    add_final(book, last, trade, amount, time)
+    let trade = terms.trade;
+    let left = in_shares(figures.walk.need);
+    let next = add_opened(book, from, trade, Price(input.n1), left, input.time);
+    let last = add_summary(book, next, trade, terms.summary);
+    add_final(book, last, trade, figures.settlement, input.time)
 }

@@ -1,5 +1,4 @@
 // The rows that a result changes or frees, each at the place where it stood before anything was written.
-ghost use mathlib.Core.List.{_++_, _∷_, []};
 ghost use mathlib.Core.Path.{_≡_};
 ghost use Prim.Native.Nat.{_+_, _≤_};
 ghost use lib.IntN.{natAbs};
@@ -21,7 +20,6 @@ use crate::rows::holding;
 use crate::rows::trade_after;
 use crate::signed::summed;
 use kinds::units::Cents;
-use kinds::units::Price;
 use kinds::units::Shares;
 use record::codes::Kind;
 use record::row::Row;
@@ -58,14 +56,10 @@ fn change_summary(book: &mut [u8], at: usize, trade: Row, summary: Row)
     requires { ⌜ (natAbs (toZ w64 (summary .m1)) ≤ moneyMost) × (trade .n1 ≤ sharesMost) ⌝ }
     ensures { λ _. ⌜ rows (now (book .exit)) ≡ sets (summaryPut trade summary at) (rows (now (book .entry))) ⌝ }
 {
-    if summary.kind == Kind::FREE {
-        return;
-    }
     let count = summed(trade.form, summary.m1, trade.n1 as u64);
-    if count == 0 {
-        return;
+    if (summary.kind != Kind::FREE) & (count != 0) {
+        put(book, at, holding(summary, Shares(count)));
     }
-    put(book, at, holding(summary, Shares(count)));
 }
 
 // At zero it goes.
@@ -73,23 +67,19 @@ pub fn free_summary(book: &mut [u8], at: usize, trade: Row, summary: Row)
     requires { ⌜ (natAbs (toZ w64 (summary .m1)) ≤ moneyMost) × (trade .n1 ≤ sharesMost) ⌝ }
     ensures { λ _. ⌜ rows (now (book .exit)) ≡ sets (summaryFree trade summary at) (rows (now (book .entry))) ⌝ }
 {
-    if summary.kind == Kind::FREE {
-        return;
-    }
     let count = summed(trade.form, summary.m1, trade.n1 as u64);
-    if count != 0 {
-        return;
+    if (summary.kind != Kind::FREE) & (count == 0) {
+        put(book, at, nothing());
     }
-    put(book, at, nothing());
 }
 
 // A cash trade changes the balance.
-fn change_account(book: &mut [u8], at: usize, trade: Row, account: Row, balance: Cents)
-    ensures { λ _. ⌜ rows (now (book .exit)) ≡ sets (accountPut trade account (balance .0) at)
+fn change_account(book: &mut [u8], at: usize, terms: Terms, balance: Cents)
+    ensures { λ _. ⌜ rows (now (book .exit)) ≡ sets (accountPut (terms .trade) (terms .account) (balance .0) at)
         (rows (now (book .entry))) ⌝ }
 {
-    if is_cash(trade.flags) {
-        put(book, at, account_after(account, balance));
+    if is_cash(terms.trade.flags) {
+        put(book, at, account_after(terms.account, balance));
     }
 }
 
@@ -101,17 +91,8 @@ pub fn change(book: &mut [u8], at: Places, input: Row, terms: Terms, figures: Fi
     ensures { λ _. ⌜ rows (now (book .exit)) ≡ sets (changePuts at input terms figures broker)
         (rows (now (book .entry))) ⌝ }
 {
-    let fee = figures.commission;
-    let levy = figures.tax;
-    let trade = trade_after(terms.trade, Price(input.n1), fee, levy, input.time);
     change_summary(book, at.summary, terms.trade, terms.summary);
-    change_account(
-        book,
-        at.account,
-        terms.trade,
-        terms.account,
-        figures.balance,
-    );
-    put(book, at.trade, trade);
-    put(book, at.broker, broker_after(broker, fee));
+    change_account(book, at.account, terms, figures.balance);
+    put(book, at.trade, trade_after(terms.trade, input, figures));
+    put(book, at.broker, broker_after(broker, figures.commission));
 }

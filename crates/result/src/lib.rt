@@ -53,14 +53,7 @@ pub fn result(
     let s = judge(book, keys, terms, figures);
     if done(s) {
         post(book, keys, input, terms, figures);
-        let levy = figures.tax;
-        let amount = figures.settlement;
-        put(
-            answer,
-            0,
-            answer_row(terms.trade, levy, figures.balance, amount),
-        );
-        return s;
+        put(answer, 0, answer_row(terms.trade, figures));
     }
     s
 }

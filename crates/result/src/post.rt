@@ -19,8 +19,6 @@ use crate::close::lot_places;
 use crate::close::reduce;
 use crate::figures::Figures;
 use crate::figures::Terms;
-use kinds::units::Price;
-use lots::units::in_shares;
 use queue::Queue;
 use record::codes::Kind;
 use record::row::Row;
@@ -35,27 +33,14 @@ pub fn post(book: &mut [u8], keys: &[u16; Slots::ALL], input: Row, terms: Terms,
     ensures { λ _. ⌜ rows (now (book .exit)) ≡ resultRows (rows (now (book .entry))) input ⌝ }
 {
     let trade = terms.trade;
-    let summary = terms.summary;
     let broker = party_row(book, keys, Kind::BROKER, terms.account.n1);
     let to = find_places(book, keys, input.id, terms);
     let mut at = [0; Queue::MOST];
     let count = lot_places(book, keys, trade, &mut at);
     let closed = add_closings(book, &at, count, trade);
-    let left = in_shares(figures.walk.need);
-    let price = Price(input.n1);
-    let amount = figures.settlement;
-    add_own(
-        book,
-        closed.next,
-        trade,
-        summary,
-        price,
-        left,
-        amount,
-        input.time,
-    );
+    add_own(book, closed.next, input, terms, figures);
     reduce(book, trade, closed.place, closed.lot, closed.left);
     change(book, to, input, terms, figures, broker);
     free_lots(book, &at, count, closed.gone);
-    free_summary(book, to.summary, trade, summary);
+    free_summary(book, to.summary, trade, terms.summary);
 }

@@ -10,6 +10,7 @@ ghost use Rattle.model.specs.Edit.{bits32};
 ghost use Rattle.model.specs.Flags.{cash};
 ghost use Rattle.result.specs.Rows.{answerRow, brokerAfter, cashRow, holding, lotHistory, newLot, newSummary};
 ghost use Rattle.result.specs.Rows.{settlementRow, tradeAfter};
+use crate::figures::Figures;
 use kinds::units::Cents;
 use kinds::units::Price;
 use kinds::units::Shares;
@@ -103,15 +104,16 @@ pub fn cash_row(trade: Row, amount: Cents, time: u32) -> Row
     c
 }
 
-pub fn trade_after(trade: Row, price: Price, commission: Cents, tax: Cents, time: u32) -> Row
-    ensures { λ r. ⌜ r ≡ tradeAfter trade (price .0) (up (commission .0)) (up (tax .0)) time ⌝ }
+pub fn trade_after(trade: Row, input: Row, figures: Figures) -> Row
+    ensures { λ r. ⌜ r ≡ tradeAfter trade (input .n1) (up (figures .commission .0)) (up (figures .tax .0))
+        (input .time) ⌝ }
 {
     let mut t = trade;
     t.status = TradeStatus::COMPLETED;
-    t.n3 = price.0;
-    t.m1 = in_cents(commission);
-    t.m2 = in_cents(tax);
-    t.time = time;
+    t.n3 = input.n1;
+    t.m1 = in_cents(figures.commission);
+    t.m2 = in_cents(figures.tax);
+    t.time = input.time;
     t
 }
 
@@ -121,9 +123,8 @@ pub fn broker_after(broker: Row, commission: Cents) -> Row
     ensures { λ r. ⌜ r ≡ brokerAfter broker (up (commission .0)) ⌝ }
 {
     let mut b = broker;
-    let fee = in_cents(commission);
-    b.n1 = b.n1 + 1;
-    b.m1 = b.m1 + fee;
+    b.n1 += 1;
+    b.m1 += in_cents(commission);
     b
 }
 
@@ -144,15 +145,15 @@ pub fn holding(row: Row, count: Shares) -> Row
     h
 }
 
-pub fn answer_row(trade: Row, tax: Cents, balance: Cents, settlement: Cents) -> Row
-    ensures { λ r. ⌜ r ≡ answerRow trade (up (tax .0)) (balance .0) (settlement .0) ⌝ }
+pub fn answer_row(trade: Row, figures: Figures) -> Row
+    ensures { λ r. ⌜ r ≡ answerRow trade (up (figures .tax .0)) (figures .balance .0) (figures .settlement .0) ⌝ }
 {
     let mut a = nothing();
     a.kind = Kind::RESULT;
     a.party = trade.party;
     a.id = trade.id;
-    a.symbol = in_symbol(in_cents(tax));
-    a.m1 = bits64(balance.0);
-    a.m2 = bits64(settlement.0);
+    a.symbol = in_symbol(in_cents(figures.tax));
+    a.m1 = bits64(figures.balance.0);
+    a.m2 = bits64(figures.settlement.0);
     a
 }

@@ -41,7 +41,7 @@ post-requires c κs =
 returns : tie.Need-returns
 returns c =
     let put = c .before .before in
-    let known = put .before .before .before .before .before in
+    let known = put .before .before .before in
     let posted = known .before .before in
     let test = posted .before .before in
     let judged = test .before .before in

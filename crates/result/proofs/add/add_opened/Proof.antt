@@ -18,15 +18,15 @@ returns-2 c =
     let second = c .before .before in
     let lot = second .before in
     let first = lot .before .before .before .before in
-    let history = first .before in
-    let count = history .before .before in
+    let history = first .before .before in
+    let count = history .before in
     let test = count .before in
     let start = test .before .before in
     let v = start .args in
     let own = got64 (count .traded .result) (count .traded .ok) in
     opened (v .trade) (v .price .0) (v .left) (v .time) (start .pre .0) (test .if1 .left) _ _
-    (own ∙ count .traded .ensures .0) (history .lot-history .ensures) (first .add .ensures .0) (first .add .ensures .1 .1)
-    (lot .new-lot .ensures) (second .add2 .ensures .0) (second .add2 .ensures .1 .1)
+    (own ∙ count .traded .ensures .0) (history .lot-history .ensures) (first .add .ensures .0)
+    (first .add .ensures .1 .1) (lot .new-lot .ensures) (second .add2 .ensures .0) (second .add2 .ensures .1 .1)
 
 pub add-opened-spec : {M : Type 1} → statement M
 add-opened-spec =

@@ -9,14 +9,16 @@ returns c =
     let third = c .before .before in
     let second = third .before .before .before .before in
     let first = second .before .before .before .before in
-    let v = first .before .before .before .args in
-    own-added (v .trade) (v .summary) (v .price .0) (v .left) (v .amount .0) (v .time) (first .add-opened .ensures)
+    let left = first .before .before in
+    let v = left .before .before .before .args in
+    own-added (v .input) (v .terms) (v .figures) (left .in-shares .ensures) (first .add-opened .ensures)
     (second .add-summary .ensures) (third .add-final .ensures)
 
 pub add-own-spec : {M : Type 1} → statement M
 add-own-spec =
     tie.close
     (tie.spec
+    (λ c κs. search needs)
     (λ c κs. search needs)
     (λ c κs. search needs)
     (λ c κs. search needs)

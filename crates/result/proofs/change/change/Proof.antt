@@ -8,12 +8,11 @@ returns : tie.Need-returns
 returns c =
     let broker = c .before .before in
     let trade = broker .before .before .before .before .before in
-    let account = trade .before .before .before .before in
+    let account = trade .before .before .before .before .before in
     let summary = account .before .before .before .before in
-    let made = summary .before .before in
-    let v = made .before .before .before .before .args in
+    let v = summary .before .before .before .args in
     changed (v .at) (v .input) (v .terms) (v .figures) (v .broker) _ _ _ _ _ (summary .change-summary .ensures)
-    (account .change-account .ensures) (made .trade-after .ensures) (trade .put .ensures .1)
+    (account .change-account .ensures) (trade .before .trade-after .ensures) (trade .put .ensures .1)
     (broker .before .broker-after .ensures) (broker .put2 .ensures .1)
 
 pub change-spec : {M : Type 1} → statement M

@@ -1,5 +1,4 @@
 -- Each row goes where the rules have it: what is added first, then what is changed and freed. Assumes nothing.
-use mathlib.Core.Path.{_≡_, _∙_}
 use Rattle.shelf.specs.Put.{free-start}
 use Rattle.tables.specs.Found.{sound-s1, sound-s2}
 use Rattle.result.specs.Figures.{trade-shares}
@@ -12,24 +11,23 @@ use Rattle.result.proofs.post.post.Tie as tie
 lot-places-requires : tie.Need-lot-places-requires
 lot-places-requires c κs =
     let places = c .before .before in
-    let start = places .before .before .before .before .before .before .before in
+    let start = places .before .before .before .before .before .before in
     start .pre .0
 
 add-closings-requires : tie.Need-add-closings-requires
 add-closings-requires c κs =
     let lots = c .before .before in
     let places = lots .before .before .before in
-    let start = places .before .before .before .before .before .before .before in
+    let start = places .before .before .before .before .before .before in
     let good = start .pre .1 .0 .0 in
     let told = lots .lot-places .ensures in
     (free-start _ (sound-s1 _ good), ((sound-s1 _ good, sound-s2 _ good), (told .1, told .0)))
 
 add-own-requires : tie.Need-add-own-requires
 add-own-requires c κs =
-    let left = c .before .before in
-    let closed = left .before .before .before in
+    let closed = c .before .before .before in
     let places = closed .before .before .before .before .before .before in
-    let start = places .before .before .before .before .before .before .before in
+    let start = places .before .before .before .before .before .before in
     let good = start .pre .1 .0 .0 in
     let read = start .pre .1 .1 .0 .0 in
     let reckoned = start .pre .1 .1 .0 .1 in
@@ -37,7 +35,7 @@ add-own-requires c κs =
     let most = trade-shares _ (v .input) good read in
     let right = start .pre .1 .0 .1 in
     let few = few-rows _ (start .pre .0 .few) in
-    let some = left-fits _ (v .input) good right read reckoned (left .in-shares .ensures) in (
+    let some = left-fits _ (v .input) good right read reckoned in (
       closed .add-closings .ensures .0 .free,
       ((summary-seen _ good (v .input) few read, most), (some, time-fits _ (v .input) good right read reckoned)),
     )
@@ -46,10 +44,10 @@ change-requires : tie.Need-change-requires
 change-requires c κs =
     let part = c .before .before .before in
     let own = part .before .before .before .before in
-    let closed = own .before .before .before .before .before .before in
+    let closed = own .before .before .before .before in
     let places = closed .before .before .before .before .before .before in
     let broker = places .before .before in
-    let start = broker .before .before .before .before .before in
+    let start = broker .before .before .before .before in
     let good = start .pre .1 .0 .0 in
     let read = start .pre .1 .1 .0 .0 in
     let v = start .args in
@@ -63,9 +61,9 @@ free-summary-requires c κs =
     let changed = c .before .before .before .before .before .before .before .before in
     let part = changed .before .before .before .before in
     let own = part .before .before .before .before in
-    let closed = own .before .before .before .before .before .before in
+    let closed = own .before .before .before .before in
     let places = closed .before .before .before .before .before .before in
-    let start = places .before .before .before .before .before .before .before in
+    let start = places .before .before .before .before .before .before in
     let good = start .pre .1 .0 .0 in
     let read = start .pre .1 .1 .0 .0 in
     let v = start .args in
@@ -79,17 +77,16 @@ returns c =
     let changed = lots .before .before .before .before .before in
     let part = changed .before .before .before .before in
     let own = part .before .before .before .before in
-    let left = own .before .before .before in
-    let closed = left .before .before .before in
+    let closed = own .before .before .before .before in
     let places = closed .before .before .before .before .before .before in
     let broker = places .before .before in
-    let start = broker .before .before .before .before .before in
+    let start = broker .before .before .before .before in
     let good = start .pre .1 .0 .0 in
     let v = start .args in
     let told = closed .add-closings .ensures in
     all-posted _ (v .input) good (v .terms) (v .figures) (start .pre .1 .1 .0 .0) (start .pre .1 .1 .0 .1)
     (start .pre .1 .1 .1) (places .find-places .ensures) (broker .party-row .ensures) _ _ _ _ _ _ (told .0)
-    (told .1 .1 .0) (told .1 .0) (left .in-shares .ensures) (own .add-own .ensures) (part .reduce .ensures)
+    (told .1 .1 .0) (told .1 .0) (own .add-own .ensures) (part .reduce .ensures)
     (changed .change .ensures) (lots .free-lots .ensures) (freed .free-summary .ensures)
 
 pub post-spec : {M : Type 1} → statement M
@@ -100,7 +97,6 @@ post-spec =
     (λ c κs. search needs)
     lot-places-requires
     add-closings-requires
-    (λ c κs. search needs)
     add-own-requires
     (λ c κs. search needs)
     change-requires

@@ -12,8 +12,9 @@ returns c =
     let first = one .before in
     let tax = first .before in
     let start = tax .before .before in
-    let balance = got64 (start .before .args .balance .0) (first .struct-told .given .0 .1) in
-    let settlement = got64 (start .before .args .settlement .0) (second .struct-told2 .given .0 .1) in
+    let f = start .before .args .figures in
+    let balance = got64 (f .balance .0) (first .struct-told .given .1 .1 .1 .1 .1 .0 .1 .1 .0 .1) in
+    let settlement = got64 (f .settlement .0) (second .struct-told2 .given .1 .1 .1 .1 .0 .1 .1 .0 .1) in
     rw (
       start .nothing .ensures,
       tax .in-symbol .ensures,
