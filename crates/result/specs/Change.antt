@@ -71,12 +71,20 @@ not-gone : (z : ℤ) → (ofZ w64 z ≡ 0 → ⊥) → gone z ≡ false
 not-gone (pos n) e = ne-eqb n 0 (λ q. e (rw q))
 not-gone (negsuc n) e = ne-eqb (suc n) 0 (λ q. omega arith)
 
-pub gone-is : (z : ℤ) → mag z < 2 ^ 63 → eqb (ofZ w64 z) 0 ≡ gone z
+gone-is : (z : ℤ) → mag z < 2 ^ 63 → eqb (ofZ w64 z) 0 ≡ gone z
 gone-is z h = go (eqb (ofZ w64 z) 0) refl
   where
     go : (x : Bool) → eqb (ofZ w64 z) 0 ≡ x → x ≡ gone z
     go true e = sym (gone-at z h (eqb-true (ofZ w64 z) 0 e))
     go false e = sym (not-gone z (eqb-false (ofZ w64 z) 0 e))
+
+-- as the code tests it, of one that is there
+module _ (s : Row) {z w : ℤ} {x : Bool} (h : mag z < 2 ^ 63) (e : z ≡ w) where
+  pub held-gone : (not (is kindFree s) && eqb (ofZ w64 z) 0) ≡ x → (not (is kindFree s) && gone w) ≡ x
+  held-gone t = rw (gone-is z h, e) at t
+
+  pub held-kept : (not (is kindFree s) && not (eqb (ofZ w64 z) 0)) ≡ x → (not (is kindFree s) && not (gone w)) ≡ x
+  held-kept t = rw (gone-is z h, e) at t
 
 -- ---- all changes in turn
 pub changed : (at : Places) (input : Row) (t : Terms) (f : Figures) (broker : Row) (b b₁ b₂ b₃ b₄ : List ℕ) {x y : Row}

@@ -1,5 +1,5 @@
 -- A summary that is there, and does not come to zero, is changed in its place. Assumes nothing.
-use Rattle.result.specs.Change.{gone-is, set-one, unset}
+use Rattle.result.specs.Change.{held-kept, set-one, unset}
 use Rattle.result.specs.Rows.{holding}
 use Rattle.record.specs.Signed.{got64}
 use lib.IntN.{ℤ}
@@ -15,17 +15,16 @@ returns c =
     let test = summary .before .before in
     let sum = test .before .before in
     let start = sum .before .before .before in
-    let gone = gone-is (sum .summed .result) (sum .summed .ok) in
     let own = got64 (sum .summed .result) (sum .summed .ok) in
-    set-one _ _ _ _ (rw (gone, sum .summed .ensures) at (test .if1 .taken))
+    set-one _ _ _ _ (held-kept (start .args .summary) (sum .summed .ok) (sum .summed .ensures) (test .if1 .taken))
     (summary .holding .ensures ∙ ap (λ (z : ℤ). holding (start .args .summary) z) (own ∙ sum .summed .ensures))
     (put .put .ensures .1)
 
 returns-2 : tie.Need-returns-2
 returns-2 c =
     let sum = c .before .before in
-    let gone = gone-is (sum .summed .result) (sum .summed .ok) in
-    unset _ _ _ (rw (gone, sum .summed .ensures) at (c .if1 .left))
+    let start = sum .before .before .before in
+    unset _ _ _ (held-kept (start .args .summary) (sum .summed .ok) (sum .summed .ensures) (c .if1 .left))
 
 pub change-summary-spec : {M : Type 1} → statement M
 change-summary-spec =
