@@ -29,8 +29,8 @@ use Rattle.lots.specs.Money.{commission-taken}
 use Rattle.lots.specs.Terms.{rate-most}
 use Rattle.order.specs.Bounds.{price-most}
 use Rattle.order.specs.Estimate.{estimated, termsOf}
-use Rattle.order.specs.Judge.{judged, judged-outcome, judged-status, orderStatus, rowsAdded, rowsAfter}
-use Rattle.order.specs.Post.{addedRows}
+use Rattle.order.specs.Judge.{judged, judged-outcome, judged-status, orderStatus, rowsAdded}
+use Rattle.order.specs.Post.{addedRows, rowsAfter}
 use Rattle.result.specs.Apart.{found-kind, found-live, found-member, key-kind}
 use Rattle.kept.specs.Bytes.{puts-length}
 use Rattle.kept.specs.OrderFits.{fits-left}

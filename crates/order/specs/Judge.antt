@@ -23,7 +23,7 @@ use Rattle.lots.specs.Terms.{some}
 use Rattle.order.specs.declared.estimate.Estimate.{Estimate}
 use Rattle.order.specs.declared.estimate.Terms.{Terms}
 use Rattle.order.specs.Estimate.{estimateSeen, estimated, termsOf, termsSeen}
-use Rattle.order.specs.Post.{addedRows, answerOf, rowsAfter}
+use Rattle.order.specs.Post.{addedOf, answerOf, rowsAfter}
 
 -- a trade and its history, and for an order that waits its request
 abbrev pub rowsAdded : Row → ℕ
@@ -124,7 +124,7 @@ module _ (rs : List Row) (input : Row) (v : View) where
   decided = finish rs input (v .number) (plan input v)
 
   abbrev added : List Row
-  added = addedRows input t e
+  added = addedOf input t e
 
   -- what an order that is done gives
   abbrev ordered : Outcome

@@ -1,5 +1,5 @@
 -- The rows that an order adds and the one that it answers, of what it read and worked out. Assumes nothing.
-use mathlib.Core.Path.{_≡_, refl, sym, ap, subst, _∙_}
+use mathlib.Core.Path.{_≡_, refl, sym, subst, _∙_}
 use mathlib.Core.Bool.{Bool, true, false, cond}
 use mathlib.Core.List.{List, [], _∷_}
 use Prim.Native.Nat.{ℕ, _%_, _≤_, _<_}
@@ -20,39 +20,55 @@ use Rattle.shelf.specs.Rows.{after, freeFrom}
 use Rattle.order.specs.declared.estimate.Estimate.{Estimate}
 use Rattle.order.specs.declared.estimate.Terms.{Terms}
 
-abbrev pub tradeRow : Row → Terms → Estimate → Row
-tradeRow input t e =
+abbrev pub tradeRow : Row → ℕ → ℕ → ℕ → ℕ → Row
+tradeRow input number price charge commission =
     new (
     kind ≔ kindTrade ∷ form ≔ input .form ∷ status ≔ firstStatus input ∷ flags ≔ (input .flags % 4)
-    ∷ party ≔ input .party ∷ id ≔ t .number .0 ∷ symbol ≔ input .symbol ∷ n1 ≔ input .n1 ∷ n2 ≔ e .price .0
-    ∷ n4 ≔ t .charge ∷ m1 ≔ up (e .commission .0) ∷ when ≔ input .time ∷ [])
+    ∷ party ≔ input .party ∷ id ≔ number ∷ symbol ≔ input .symbol ∷ n1 ≔ input .n1 ∷ n2 ≔ price ∷ n4 ≔ charge
+    ∷ m1 ≔ commission ∷ when ≔ input .time ∷ [])
 
--- the history of a trade with this row
-abbrev historyRow : Row → Row
-historyRow t = new (kind ≔ kindTradeHistory ∷ status ≔ t .status ∷ id ≔ t .id ∷ when ≔ t .time ∷ [])
+abbrev pub historyRow : Row → ℕ → Row
+historyRow input number =
+    new (kind ≔ kindTradeHistory ∷ status ≔ firstStatus input ∷ id ≔ number ∷ when ≔ input .time ∷ [])
 
-abbrev pub requestRow : Row → Terms → Estimate → Row
-requestRow input t e =
+abbrev pub requestRow : Row → ℕ → ℕ → ℕ → Row
+requestRow input broker number price =
     new (
-    kind ≔ kindRequest ∷ form ≔ input .form ∷ party ≔ t .account .n1 ∷ id ≔ t .number .0 ∷ symbol ≔ input .symbol
-    ∷ n1 ≔ input .n1 ∷ n2 ≔ e .price .0 ∷ [])
+    kind ≔ kindRequest ∷ form ≔ input .form ∷ party ≔ broker ∷ id ≔ number ∷ symbol ≔ input .symbol ∷ n1 ≔ input .n1
+    ∷ n2 ≔ price ∷ [])
 
 -- a request waits where the order is not one at the market's price
-abbrev pub addedRows : Row → Terms → Estimate → List Row
-addedRows input t e =
-    tradeRow input t e
-    ∷ historyRow (tradeRow input t e)
-    ∷ cond (leb (input .form) tms) [] (requestRow input t e ∷ [])
+abbrev pub addedRows : Row → ℕ → ℕ → ℕ → ℕ → ℕ → List Row
+addedRows input broker number price charge commission =
+    tradeRow input number price charge commission
+    ∷ historyRow input number
+    ∷ cond (leb (input .form) tms) [] (requestRow input broker number price ∷ [])
+
+abbrev pub answerRow : ℕ → ℕ → ℕ → ℕ → ℕ → ℕ → ℕ → Row
+answerRow number tax charge rate price bought sold =
+    new (
+    kind ≔ kindOrder ∷ id ≔ number ∷ symbol ≔ inSymbol tax ∷ n1 ≔ charge ∷ n2 ≔ rate ∷ n3 ≔ price ∷ m1 ≔ bought
+    ∷ m2 ≔ sold ∷ [])
+
+-- ---- of the terms and the estimate
+abbrev pub tradeOf : Row → Terms → Estimate → Row
+tradeOf input t e = tradeRow input (t .number .0) (e .price .0) (t .charge) (up (e .commission .0))
+
+abbrev pub requestOf : Row → Terms → Estimate → Row
+requestOf input t e = requestRow input (t .account .n1) (t .number .0) (e .price .0)
+
+abbrev pub addedOf : Row → Terms → Estimate → List Row
+addedOf input t e =
+    addedRows input (t .account .n1) (t .number .0) (e .price .0) (t .charge) (up (e .commission .0))
 
 -- the rows of an order that is done
 unfoldable pub rowsAfter : List Row → Row → Terms → Estimate → List Row
-rowsAfter rs input t e = cond (rollBack (input .flags)) rs (fill sameRow nothing (addedRows input t e) rs)
+rowsAfter rs input t e = cond (rollBack (input .flags)) rs (fill sameRow nothing (addedOf input t e) rs)
 
 unfoldable pub answerOf : Terms → Estimate → Row
 answerOf t e =
-    new (
-    kind ≔ kindOrder ∷ id ≔ t .number .0 ∷ symbol ≔ inSymbol (up (e .tax .0)) ∷ n1 ≔ t .charge ∷ n2 ≔ t .rate .0
-    ∷ n3 ≔ e .price .0 ∷ m1 ≔ up (e .walk .bought .0) ∷ m2 ≔ up (e .walk .sold .0) ∷ [])
+    answerRow (t .number .0) (up (e .tax .0)) (t .charge) (t .rate .0) (e .price .0) (up (e .walk .bought .0))
+    (up (e .walk .sold .0))
 
 -- ---- with roll back the rows are as they were
 module _ (input : Row) (t : Terms) (e : Estimate) (b : List ℕ) {x : Bool} (r : x ≡ rollBack (input .flags)) where
@@ -63,34 +79,35 @@ module _ (input : Row) (t : Terms) (e : Estimate) (b : List ℕ) {x : Bool} (r :
   -- ---- else a trade and its history, and the request of one that waits
   module _ (n : x ≡ false) (b₁ b₂ : List ℕ) {trade past : Row} {next last : ℕ}
       (f : Free b 0)
-      (t-is : trade ≡ tradeRow input t e)
+      (t-is : trade ≡ tradeOf input t e)
       (t-next : next ≡ after (rows b) (freeFrom (rows b) 0))
       (t-put : rows b₁ ≡ set (rows b) (freeFrom (rows b) 0) trade)
-      (h-is : past ≡ historyRow trade)
+      (h-is : past
+      ≡ new (kind ≔ kindTradeHistory ∷ status ≔ trade .status ∷ id ≔ trade .id ∷ when ≔ trade .time ∷ []))
       (h-next : last ≡ after (rows b₁) (freeFrom (rows b₁) next))
       (h-put : rows b₂ ≡ set (rows b₁) (freeFrom (rows b₁) next) past) where
     abbrev all : List Row
-    all = fill sameRow nothing (addedRows input t e) (rows b)
+    all = fill sameRow nothing (addedOf input t e) (rows b)
 
     all-rows : all ≡ rowsAfter (rows b) input t e
     unfolding rowsAfter
     all-rows = rw (sym r ∙ n)
 
     abbrev waiting : List Row
-    waiting = cond (leb (input .form) tms) [] (requestRow input t e ∷ [])
+    waiting = cond (leb (input .form) tms) [] (requestOf input t e ∷ [])
 
     two-added : Adding all waiting b₂ last
     two-added =
-        let s = add-next (add-start (addedRows input t e) b f) refl t-is t-next t-put in
-        add-next s refl (h-is ∙ ap historyRow t-is) h-next h-put
+        let s = add-next (add-start (addedOf input t e) b f) refl t-is t-next t-put in
+        add-next s refl (h-is ∙ rw t-is) h-next h-put
 
     pub submitted-now : input .form ≤ tms → rows b₂ ≡ rowsAfter (rows b) input t e
     submitted-now m = add-done two-added (rw (le-leb (input .form) tms m)) ∙ all-rows
 
-    pub waits : (b₃ : List ℕ) {q : Row} {end : ℕ} → tms < input .form → q ≡ requestRow input t e
+    pub waits : (b₃ : List ℕ) {q : Row} {end : ℕ} → tms < input .form → q ≡ requestOf input t e
         → end ≡ after (rows b₂) (freeFrom (rows b₂) last) → rows b₃ ≡ set (rows b₂) (freeFrom (rows b₂) last) q
         → rows b₃ ≡ rowsAfter (rows b) input t e
     waits b₃ m q-is q-next q-put =
-        let w : waiting ≡ requestRow input t e ∷ [] = rw (lt-leb (input .form) tms m) in
+        let w : waiting ≡ requestOf input t e ∷ [] = rw (lt-leb (input .form) tms m) in
         let s = subst (λ (l : List Row). Adding all l b₂ last) w two-added in
         add-done (add-next s refl q-is q-next q-put) refl ∙ all-rows

@@ -4,7 +4,7 @@ ghost use Rattle.model.specs.Flags.{rollBack};
 ghost use Rattle.model.specs.Order.{firstStatus};
 ghost use Rattle.model.specs.Rows.{rows};
 ghost use Rattle.shelf.specs.Put.{Free};
-ghost use Rattle.order.specs.Post.{answerOf, requestRow, rowsAfter, tradeRow};
+ghost use Rattle.order.specs.Post.{answerOf, requestOf, rowsAfter, tradeOf};
 use crate::estimate::Estimate;
 use crate::estimate::Terms;
 use lots::units::in_cents;
@@ -29,7 +29,7 @@ fn first_status(input: Row) -> u8
 
 // Its flags are cash and LIFO: roll back is the order's alone.
 fn trade_row(input: Row, terms: Terms, estimate: Estimate) -> Row
-    ensures { λ r. ⌜ r ≡ tradeRow input terms estimate ⌝ }
+    ensures { λ r. ⌜ r ≡ tradeOf input terms estimate ⌝ }
 {
     let mut t = nothing();
     t.kind = Kind::TRADE;
@@ -48,7 +48,7 @@ fn trade_row(input: Row, terms: Terms, estimate: Estimate) -> Row
 }
 
 fn request_row(input: Row, terms: Terms, estimate: Estimate) -> Row
-    ensures { λ r. ⌜ r ≡ requestRow input terms estimate ⌝ }
+    ensures { λ r. ⌜ r ≡ requestOf input terms estimate ⌝ }
 {
     let mut q = nothing();
     q.kind = Kind::REQUEST;
