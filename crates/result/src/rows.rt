@@ -1,5 +1,4 @@
 // The rows that a result adds, those that it changes, and the one that it answers.
-ghost use mathlib.Core.Bool.{cond};
 ghost use mathlib.Core.Path.{_≡_};
 ghost use Prim.Native.Nat.{_+_, _≤_};
 ghost use lib.IntN.{natAbs};
@@ -7,7 +6,6 @@ ghost use Rattle.record.specs.Signed.{up};
 ghost use Rattle.rules.specs.Ranges.{brokerTrades, commissionTotal, sharesMost};
 ghost use Rattle.rules.specs.Ranges;
 ghost use Rattle.model.specs.Edit.{bits32};
-ghost use Rattle.model.specs.Flags.{cash};
 ghost use Rattle.result.specs.Rows.{answerRow, brokerAfter, cashRow, holding, lotHistory, newLot, newSummary};
 ghost use Rattle.result.specs.Rows.{settlementRow, tradeAfter};
 use crate::figures::Figures;
@@ -34,12 +32,6 @@ fn low_bits(count: Shares) -> u32
     ensures { λ r. ⌜ r ≡ bits32 (count .0) ⌝ }
 {
     (bits64(count.0) % 4_294_967_296) as u32
-}
-
-fn cash_flag(flags: u8) -> u8
-    ensures { λ r. ⌜ r ≡ cond (cash flags) 1 0 ⌝ }
-{
-    flags % 2
 }
 
 pub fn lot_history(lot: u64, trade: u64, old: Shares, left: Shares) -> Row
@@ -80,13 +72,14 @@ pub fn new_summary(trade: Row, count: Shares) -> Row
     s
 }
 
+// Of the trade's flags it keeps cash alone.
 pub fn settlement_row(trade: Row, amount: Cents, time: u32) -> Row
     requires { ⌜ time ≤ Ranges.time .high ⌝ }
     ensures { λ r. ⌜ r ≡ settlementRow trade (amount .0) time ⌝ }
 {
     let mut s = nothing();
     s.kind = Kind::SETTLEMENT;
-    s.flags = cash_flag(trade.flags);
+    s.flags = trade.flags % 2;
     s.id = trade.id;
     s.m1 = bits64(amount.0);
     s.time = time + Due::SECONDS;
