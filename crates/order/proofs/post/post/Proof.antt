@@ -1,5 +1,5 @@
--- With roll back the rows are as they were. Else each row is put into the lowest place that is free, and the next search
--- begins behind it; the request comes last, where the order waits. Assumes nothing.
+-- With roll back the rows are as they were. Else each row is put into the lowest place that is free, and the next
+-- search begins behind it; the request comes last, where the order waits. Assumes nothing.
 use borrow.Author.Needs.{needs}
 use Rattle.order.specs.Post.{rolled-back, submitted-now, waits}
 use Rattle.order.proofs.post.post.Statement.{statement}
