@@ -5,10 +5,7 @@ ghost use Rattle.laws.specs.Search.{every};
 ghost use Rattle.record.specs.Grid.{decode};
 ghost use Rattle.rules.specs.Rules.{feedInput, lookupInput, orderInput, resultInput};
 ghost use Rattle.model.specs.Rows.{rows};
-use kinds::inputs::FeedInput;
-use kinds::inputs::LookupInput;
-use kinds::inputs::OrderInput;
-use kinds::inputs::ResultInput;
+use kinds::inputs::Inputs;
 use record::codes::TradeType;
 use record::row::Grid;
 use record::row::Row;
@@ -20,27 +17,25 @@ use shelf::place::row_at;
 fn order_input(r: Row) -> bool
     ensures { λ b. ⌜ b ≡ orderInput r ⌝ }
 {
-    in_limits(r, OrderInput::LIMITS)
-        & alike(r.n2 == 0, r.form <= TradeType::TMS)
-        & symbol_ok(r.symbol)
+    in_limits(r, Inputs::ORDER) & alike(r.n2 == 0, r.form <= TradeType::TMS) & symbol_ok(r.symbol)
 }
 
 fn result_input(r: Row) -> bool
     ensures { λ b. ⌜ b ≡ resultInput r ⌝ }
 {
-    in_limits(r, ResultInput::LIMITS)
+    in_limits(r, Inputs::RESULT)
 }
 
 fn feed_input(r: Row) -> bool
     ensures { λ b. ⌜ b ≡ feedInput r ⌝ }
 {
-    in_limits(r, FeedInput::LIMITS) & symbol_ok(r.symbol)
+    in_limits(r, Inputs::FEED) & symbol_ok(r.symbol)
 }
 
 fn lookup_input(r: Row) -> bool
     ensures { λ b. ⌜ b ≡ lookupInput r ⌝ }
 {
-    in_limits(r, LookupInput::LIMITS)
+    in_limits(r, Inputs::LOOKUP)
 }
 
 pub fn is_order(part: &[u8]) -> bool

@@ -1,4 +1,4 @@
--- Each kind of row and of input as the values that its fields mean: "Balances, lots and settlements are i64, .. read
+-- Each kind of row as the values that its fields mean: "Balances, lots and settlements are i64, .. read
 -- from and written to two's complement bytes"; counts of shares and of cents that are never below zero are read as
 -- they stand. Assumes nothing.
 use lib.IntN.{pos}
@@ -22,10 +22,6 @@ use Rattle.kinds.specs.declared.rows.Summary.{Summary}
 use Rattle.kinds.specs.declared.rows.LotHistory.{LotHistory}
 use Rattle.kinds.specs.declared.rows.Settlement.{Settlement}
 use Rattle.kinds.specs.declared.rows.Cash.{Cash}
-use Rattle.kinds.specs.declared.inputs.OrderInput.{OrderInput}
-use Rattle.kinds.specs.declared.inputs.ResultInput.{ResultInput}
-use Rattle.kinds.specs.declared.inputs.FeedInput.{FeedInput}
-use Rattle.kinds.specs.declared.inputs.LookupInput.{LookupInput}
 
 unfoldable pub brokerOf : Row → Broker
 brokerOf r = record {
@@ -159,35 +155,4 @@ cashOf r = record {
   no = record { 0 = r .id };
   amount = cents (toZ w64 (r .m1));
   time = record { 0 = r .time };
-}
-
-unfoldable pub orderInputOf : Row → OrderInput
-orderInputOf r = record {
-  form = r .form;
-  flags = r .flags;
-  account = record { 0 = r .party };
-  symbol = record { 0 = r .symbol };
-  shares = shares (pos (r .n1));
-  bid = record { 0 = r .n2 };
-  time = record { 0 = r .time };
-}
-
-unfoldable pub resultInputOf : Row → ResultInput
-resultInputOf r = record {
-  no = record { 0 = r .id };
-  price = record { 0 = r .n1 };
-  time = record { 0 = r .time };
-}
-
-unfoldable pub feedInputOf : Row → FeedInput
-feedInputOf r = record {
-  symbol = record { 0 = r .symbol };
-  price = record { 0 = r .n1 };
-  shares = shares (pos (r .n2));
-  time = record { 0 = r .time };
-}
-
-unfoldable pub lookupInputOf : Row → LookupInput
-lookupInputOf r = record {
-  no = record { 0 = r .id };
 }
