@@ -4,7 +4,7 @@ ghost use mathlib.Core.Bool.{cond, true};
 ghost use Prim.Native.Nat.{_≤_};
 ghost use lib.Dec.{eqb};
 ghost use lib.ListN.{length};
-ghost use Rattle.laws.specs.Search.{bit, count, every};
+ghost use Rattle.laws.specs.Search.{count, every};
 ghost use Rattle.model.specs.Call.{mostInputs};
 ghost use Rattle.model.specs.Rows.{rows, wholeRecords};
 ghost use Rattle.tables.specs.Bucket.{steadyBucket};
@@ -18,6 +18,7 @@ use record::codes::Kind;
 use record::codes::TradeType;
 use record::row::Grid;
 use record::row::Row;
+use shelf::count::bit;
 use shelf::count::room;
 use shelf::place::row_at;
 use tables::table::Slots;
@@ -58,12 +59,6 @@ pub fn due(input: &[u8], row: Row) -> bool
     false
 }
 
-fn due_bit(input: &[u8], row: Row) -> usize
-    ensures { λ r. ⌜ (r ≡ bit (due (rows (now (input .entry))) row)) × (r ≤ 1) ⌝ }
-{
-    if due(input, row) { 1 } else { 0 }
-}
-
 // How many trades the entries submit.
 pub fn submitted(book: &[u8], input: &[u8]) -> usize
     ensures { λ r. ⌜ r ≡ count (due (rows (now (input .entry)))) (rows (now (book .entry))) ⌝ }
@@ -72,7 +67,7 @@ pub fn submitted(book: &[u8], input: &[u8]) -> usize
     let mut sum: usize = 0;
     let mut i = 0;
     while i < n {
-        sum += due_bit(input, row_at(book, i));
+        sum += bit(due(input, row_at(book, i)));
         i += 1;
     }
     sum

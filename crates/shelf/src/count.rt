@@ -2,19 +2,18 @@
 ghost use mathlib.Core.Path.{_≡_};
 ghost use Prim.Native.Nat.{_≤_};
 ghost use Rattle.laws.specs.Search.{bit, count};
-ghost use Rattle.record.specs.Codes.{kindFree};
 ghost use Rattle.model.specs.Plan.{room};
-ghost use Rattle.model.specs.Rows.{is, rows};
+ghost use Rattle.model.specs.Rows.{rows};
 ghost use Rattle.model.specs.Tally.{inSquare};
-use crate::place;
+use crate::place::row_at;
 use record::codes::Kind;
 use record::row::Grid;
-use record::row::Row;
 
-fn free_bit(row: Row) -> usize
-    ensures { λ r. ⌜ (r ≡ bit (is kindFree row)) × (r ≤ 1) ⌝ }
+// 1 where a test holds, and 0 where it does not.
+pub fn bit(test: bool) -> usize
+    ensures { λ r. ⌜ (r ≡ bit test) × (r ≤ 1) ⌝ }
 {
-    if row.kind == Kind::FREE { 1 } else { 0 }
+    if test { 1 } else { 0 }
 }
 
 // The number of free places.
@@ -25,20 +24,10 @@ pub fn room(book: &[u8]) -> usize
     let mut free: usize = 0;
     let mut i = 0;
     while i < places {
-        free += free_bit(place::row_at(book, i));
+        free += bit(row_at(book, i).kind == Kind::FREE);
         i += 1;
     }
     free
-}
-
-fn trade_bit(form: u8, status: u8, row: Row) -> usize
-    ensures { λ r. ⌜ (r ≡ bit (inSquare form status row)) × (r ≤ 1) ⌝ }
-{
-    if (row.kind == Kind::TRADE) & (row.form == form) & (row.status == status) {
-        1
-    } else {
-        0
-    }
 }
 
 // The number of trades of this type and status.
@@ -49,7 +38,8 @@ pub fn trades(book: &[u8], form: u8, status: u8) -> usize
     let mut sum: usize = 0;
     let mut i = 0;
     while i < n {
-        sum += trade_bit(form, status, place::row_at(book, i));
+        let row = row_at(book, i);
+        sum += bit((row.kind == Kind::TRADE) & (row.form == form) & (row.status == status));
         i += 1;
     }
     sum

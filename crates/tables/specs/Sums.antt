@@ -181,6 +181,9 @@ pub fits-there : (b : List ℕ) (c : ℕ) {r : Row} → s1 (rows b) ≡ true →
 unfolding s1
 fits-there b c e h q = rw q (every-at fits nothing (rows b) c e (rw length-rows h))
 
+pub same-bit : {x : ℕ} {y z : Bool} → x ≡ bit y → y ≡ z → x ≡ bit z
+same-bit e h = e ∙ ap bit h
+
 pub bit-yes : (t : Bool) {x : Bool} → x ≡ t → x ≡ true → 1 ≡ bit t
 bit-yes t e h = rw (← e, h)
 

@@ -19,6 +19,7 @@ use crate::test::held;
 use record::codes::Kind;
 use record::row::Grid;
 use record::row::Row;
+use shelf::count::bit;
 use shelf::place::row_at;
 
 fn overlap(a: Row, b: Row) -> bool
@@ -32,12 +33,6 @@ fn overlap(a: Row, b: Row) -> bool
         & (b.n1 <= a.n2)
 }
 
-fn overlap_bit(a: Row, b: Row) -> usize
-    ensures { λ r. ⌜ (r ≡ bit (overlaps a b)) × (r ≤ 1) ⌝ }
-{
-    if overlap(a, b) { 1 } else { 0 }
-}
-
 // How many bands overlap a band, itself among them.
 pub fn overlapping(book: &[u8], keys: &[u16; Slots::ALL], band: Row) -> usize
     requires { ⌜ Indexed keyBucket (now book) (now keys) 0 ⌝ }
@@ -48,7 +43,7 @@ pub fn overlapping(book: &[u8], keys: &[u16; Slots::ALL], band: Row) -> usize
     let mut sum = 0;
     let mut c = wide(keys[h]);
     while c < n {
-        sum += overlap_bit(band, row_at(book, c));
+        sum += bit(overlap(band, row_at(book, c)));
         let s = Slots::HEADS + c;
         c = wide(keys[s]);
     }
@@ -160,24 +155,16 @@ pub fn holding(book: &[u8], steady: &[u16; Slots::ALL], account: u32, symbol: u6
     }
 }
 
-fn history_bit(id: u64, status: u8, row: Row) -> usize
-    ensures { λ r. ⌜ (r ≡ bit (hasKey (aHistory id status) row)) × (r ≤ 1) ⌝ }
+fn of_status(id: u64, status: u8, row: Row) -> bool
+    ensures { λ r. ⌜ r ≡ hasKey (aHistory id status) row ⌝ }
 {
-    if (row.kind == Kind::TRADE_HISTORY) & (row.id == id) & (row.status == status) {
-        1
-    } else {
-        0
-    }
+    (row.kind == Kind::TRADE_HISTORY) & (row.id == id) & (row.status == status)
 }
 
-fn higher_bit(id: u64, status: u8, row: Row) -> usize
-    ensures { λ r. ⌜ (r ≡ bit (higherThan id status row)) × (r ≤ 1) ⌝ }
+fn higher(id: u64, status: u8, row: Row) -> bool
+    ensures { λ r. ⌜ r ≡ higherThan id status row ⌝ }
 {
-    if (row.kind == Kind::TRADE_HISTORY) & (row.id == id) & (status < row.status) {
-        1
-    } else {
-        0
-    }
+    (row.kind == Kind::TRADE_HISTORY) & (row.id == id) & (status < row.status)
 }
 
 // A trade has the history of its status, and none of a higher one.
@@ -192,8 +179,8 @@ pub fn historied(book: &[u8], keys: &[u16; Slots::ALL], id: u64, status: u8) -> 
     let mut c = wide(keys[h]);
     while c < n {
         let row = row_at(book, c);
-        present += history_bit(id, status, row);
-        above += higher_bit(id, status, row);
+        present += bit(of_status(id, status, row));
+        above += bit(higher(id, status, row));
         let s = Slots::HEADS + c;
         c = wide(keys[s]);
     }

@@ -4,6 +4,7 @@ use Prim.Native.Nat.{_-_}
 use Rattle.laws.specs.Search.{bit, count}
 use Rattle.model.specs.Rows.{rows}
 use Rattle.shelf.specs.Loop.{Summed, loops}
+use Rattle.tables.specs.Sums.{same-bit}
 use Rattle.feed.specs.Hits.{due}
 use borrow.Author.Needs.{needs}
 use Rattle.feed.proofs.judge.submitted.Statement.{statement}
@@ -23,11 +24,12 @@ submitted-spec =
     (tie.spec
     Inv-loop
     μ-loop
-    (λ c. search (needs, loops))
-    (λ c κs. search (needs, loops))
-    (λ c κs. search (needs, loops))
-    (λ c. search (needs, loops))
-    (λ c. search (needs, loops))
-    (λ c. search (needs, loops))
-    (λ c. search (needs, loops))
-    (λ c. search (needs, loops)))
+    (λ c. search (needs, loops, same-bit))
+    (λ c κs. search (needs, loops, same-bit))
+    (λ c κs. search (needs, loops, same-bit))
+    (λ c κs. search (needs, loops, same-bit))
+    (λ c. search (needs, loops, same-bit))
+    (λ c. search (needs, loops, same-bit))
+    (λ c. search (needs, loops, same-bit))
+    (λ c. search (needs, loops, same-bit))
+    (λ c. search (needs, loops, same-bit)))

@@ -6,7 +6,7 @@ use Rattle.record.specs.Codes.{kindTradeHistory}
 use Rattle.model.specs.Names.{aHistory}
 use Rattle.model.specs.Rows.{hasKey, rows, there}
 use Rattle.tables.specs.Bucket.{bucketOf, keyBucket}
-use Rattle.tables.specs.Sums.{higher-counted, higherThan, history-counted}
+use Rattle.tables.specs.Sums.{higher-counted, higherThan, history-counted, same-bit}
 use borrow.Author.Needs.{needs}
 use Rattle.tables.specs.Table.{Tallied, tables, tally-all, tally-start}
 use Rattle.tables.proofs.sums.historied.Statement.{statement}
@@ -33,8 +33,7 @@ loop-holds c =
     )
 
 loop-again : tie.Need-loop-again Inv-loop μ-loop
-loop-again c =
-    (search (needs, tables, history-counted, higher-counted), search (needs, tables, history-counted, higher-counted))
+loop-again c = (search (needs, tables, same-bit), search (needs, tables, same-bit))
 
 returns : tie.Need-returns Inv-loop μ-loop
 unfolding there
@@ -47,20 +46,22 @@ historied-spec =
     (tie.spec
     Inv-loop
     μ-loop
-    (λ c κs. search (needs, tables, history-counted, higher-counted))
-    (λ c. search (needs, tables, history-counted, higher-counted))
-    (λ c. search (needs, tables, history-counted, higher-counted))
-    (λ c κs. search (needs, tables, history-counted, higher-counted))
+    (λ c κs. search (needs, tables))
+    (λ c. search (needs, tables))
+    (λ c. search (needs, tables))
+    (λ c κs. search (needs, tables))
     loop-holds
-    (λ c κs. search (needs, tables, history-counted, higher-counted))
-    (λ c κs. search (needs, tables, history-counted, higher-counted))
-    (λ c. search (needs, tables, history-counted, higher-counted))
-    (λ c κs. search (needs, tables, history-counted, higher-counted))
-    (λ c. search (needs, tables, history-counted, higher-counted))
-    (λ c. search (needs, tables, history-counted, higher-counted))
-    (λ c. search (needs, tables, history-counted, higher-counted))
-    (λ c. search (needs, tables, history-counted, higher-counted))
-    (λ c κs. search (needs, tables, history-counted, higher-counted))
-    (λ c. search (needs, tables, history-counted, higher-counted))
+    (λ c κs. search (needs, tables))
+    (λ c κs. search (needs, tables))
+    (λ c κs. search (needs, tables))
+    (λ c. search (needs, tables))
+    (λ c κs. search (needs, tables))
+    (λ c κs. search (needs, tables))
+    (λ c. search (needs, tables))
+    (λ c. search (needs, tables))
+    (λ c. search (needs, tables))
+    (λ c. search (needs, tables))
+    (λ c κs. search (needs, tables))
+    (λ c. search (needs, tables))
     loop-again
     returns)

@@ -6,7 +6,7 @@ use Rattle.record.specs.Codes.{kindBand}
 use Rattle.model.specs.Rows.{rows}
 use Rattle.model.specs.Sound.{overlaps}
 use Rattle.tables.specs.Bucket.{bucketOf, keyBucket}
-use Rattle.tables.specs.Sums.{bands-counted}
+use Rattle.tables.specs.Sums.{bands-counted, same-bit}
 use borrow.Author.Needs.{needs}
 use Rattle.tables.specs.Table.{Tallied, tables}
 use Rattle.tables.proofs.sums.overlapping.Statement.{statement}
@@ -27,18 +27,19 @@ overlapping-spec =
     (tie.spec
     Inv-loop
     μ-loop
-    (λ c κs. search (needs, tables, bands-counted))
-    (λ c. search (needs, tables, bands-counted))
-    (λ c. search (needs, tables, bands-counted))
-    (λ c κs. search (needs, tables, bands-counted))
-    (λ c. search (needs, tables, bands-counted))
-    (λ c κs. search (needs, tables, bands-counted))
-    (λ c κs. search (needs, tables, bands-counted))
-    (λ c. search (needs, tables, bands-counted))
-    (λ c. search (needs, tables, bands-counted))
-    (λ c. search (needs, tables, bands-counted))
-    (λ c. search (needs, tables, bands-counted))
-    (λ c κs. search (needs, tables, bands-counted))
-    (λ c. search (needs, tables, bands-counted))
-    (λ c. search (needs, tables, bands-counted))
-    (λ c. search (needs, tables, bands-counted)))
+    (λ c κs. search (needs, tables, bands-counted, same-bit))
+    (λ c. search (needs, tables, bands-counted, same-bit))
+    (λ c. search (needs, tables, bands-counted, same-bit))
+    (λ c κs. search (needs, tables, bands-counted, same-bit))
+    (λ c. search (needs, tables, bands-counted, same-bit))
+    (λ c κs. search (needs, tables, bands-counted, same-bit))
+    (λ c κs. search (needs, tables, bands-counted, same-bit))
+    (λ c κs. search (needs, tables, bands-counted, same-bit))
+    (λ c. search (needs, tables, bands-counted, same-bit))
+    (λ c. search (needs, tables, bands-counted, same-bit))
+    (λ c. search (needs, tables, bands-counted, same-bit))
+    (λ c. search (needs, tables, bands-counted, same-bit))
+    (λ c κs. search (needs, tables, bands-counted, same-bit))
+    (λ c. search (needs, tables, bands-counted, same-bit))
+    (λ c. search (needs, tables, bands-counted, same-bit))
+    (λ c. search (needs, tables, bands-counted, same-bit)))
