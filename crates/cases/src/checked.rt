@@ -10,8 +10,8 @@ fn judged(kind: u8, part: &[u8]) -> bool
     match kind {
         33 => inputs::is_order(part),
         34 => inputs::is_result(part),
-        35 => inputs::is_feed(part),
-        36 => inputs::is_lookup(part),
+        35 => inputs::all_feed(part),
+        36 => inputs::all_lookup(part),
         _ => fields::fits(part),
     }
 }

@@ -14,56 +14,31 @@ use rules::limited::in_limits;
 use rules::symbol::symbol_ok;
 use shelf::place::row_at;
 
-fn order_input(r: Row) -> bool
-    ensures { λ b. ⌜ b ≡ orderInput r ⌝ }
-{
-    in_limits(r, Inputs::ORDER) & alike(r.n2 == 0, r.form <= TradeType::TMS) & symbol_ok(r.symbol)
-}
-
-fn result_input(r: Row) -> bool
-    ensures { λ b. ⌜ b ≡ resultInput r ⌝ }
-{
-    in_limits(r, Inputs::RESULT)
-}
-
-fn feed_input(r: Row) -> bool
-    ensures { λ b. ⌜ b ≡ feedInput r ⌝ }
-{
-    in_limits(r, Inputs::FEED) & symbol_ok(r.symbol)
-}
-
-fn lookup_input(r: Row) -> bool
-    ensures { λ b. ⌜ b ≡ lookupInput r ⌝ }
-{
-    in_limits(r, Inputs::LOOKUP)
-}
-
 pub fn is_order(part: &[u8]) -> bool
     requires { ⌜ length (now part) ≡ 64 ⌝ }
     ensures { λ b. ⌜ b ≡ orderInput (decode (now (part .entry))) ⌝ }
 {
-    order_input(Row::read(part))
+    let r = Row::read(part);
+    in_limits(r, Inputs::ORDER) & alike(r.n2 == 0, r.form <= TradeType::TMS) & symbol_ok(r.symbol)
 }
 
 pub fn is_result(part: &[u8]) -> bool
     requires { ⌜ length (now part) ≡ 64 ⌝ }
     ensures { λ b. ⌜ b ≡ resultInput (decode (now (part .entry))) ⌝ }
 {
-    result_input(Row::read(part))
+    in_limits(Row::read(part), Inputs::RESULT)
 }
 
-pub fn is_feed(part: &[u8]) -> bool
-    requires { ⌜ length (now part) ≡ 64 ⌝ }
-    ensures { λ b. ⌜ b ≡ feedInput (decode (now (part .entry))) ⌝ }
+fn is_feed(r: Row) -> bool
+    ensures { λ b. ⌜ b ≡ feedInput r ⌝ }
 {
-    feed_input(Row::read(part))
+    in_limits(r, Inputs::FEED) & symbol_ok(r.symbol)
 }
 
-pub fn is_lookup(part: &[u8]) -> bool
-    requires { ⌜ length (now part) ≡ 64 ⌝ }
-    ensures { λ b. ⌜ b ≡ lookupInput (decode (now (part .entry))) ⌝ }
+fn is_lookup(r: Row) -> bool
+    ensures { λ b. ⌜ b ≡ lookupInput r ⌝ }
 {
-    lookup_input(Row::read(part))
+    in_limits(r, Inputs::LOOKUP)
 }
 
 // Every record of an input.
@@ -73,7 +48,7 @@ pub fn all_feed(input: &[u8]) -> bool
     let n = input.len() / Grid::SIZE;
     let mut i = 0;
     while i < n {
-        if feed_input(row_at(input, i)) {
+        if is_feed(row_at(input, i)) {
             i += 1;
         } else {
             return false;
@@ -89,7 +64,7 @@ pub fn all_lookup(input: &[u8]) -> bool
     let n = input.len() / Grid::SIZE;
     let mut i = 0;
     while i < n {
-        if lookup_input(row_at(input, i)) {
+        if is_lookup(row_at(input, i)) {
             i += 1;
         } else {
             return false;
