@@ -23,6 +23,7 @@ use crate::judge::due;
 use crate::judge::hits;
 use queue::Queue;
 use queue::admit;
+use record::bytes::wide32;
 use record::codes::Kind;
 use record::codes::TradeStatus;
 use record::row::Grid;
@@ -35,12 +36,6 @@ use shelf::put::put;
 use tables::table::Slots;
 use tables::table::security_at;
 use tables::table::trade_at;
-
-fn wide(x: u32) -> u64
-    ensures { λ r. ⌜ r ≡ x ⌝ }
-{
-    x as u64
-}
 
 // The last price, time and volume of the entry's security.
 fn quote(book: &mut [u8], steady: &[u16; Slots::ALL], entry: Row)
@@ -56,7 +51,7 @@ fn quote(book: &mut [u8], steady: &[u16; Slots::ALL], entry: Row)
     let at = security_at(book, steady, entry.symbol);
     let mut s = row_at(book, at);
     s.n1 = entry.n1;
-    s.m1 = s.m1 + wide(entry.n2);
+    s.m1 = s.m1 + wide32(entry.n2);
     s.time = entry.time;
     put(book, at, s);
 }

@@ -13,7 +13,7 @@ fn wide8(x: u8) -> u32
     x as u32
 }
 
-fn wide32(x: u32) -> u64
+pub fn wide32(x: u32) -> u64
     ensures { λ r. ⌜ (r ≡ x) × (r < 4294967296) ⌝ }
 {
     x as u64

@@ -4,18 +4,13 @@
 ghost use mathlib.Core.Path.{_≡_};
 ghost use Prim.Native.Nat.{_<_};
 ghost use Rattle.tables.specs.Bucket.{bucketOf, headCount, keyBucket, steadyBucket};
+use record::bytes::wide32;
 use record::codes::Kind;
 use record::key::Key;
 use record::row::Row;
 
 fn wide8(x: u8) -> u64
     ensures { λ r. ⌜ (r ≡ x) × (r < 256) ⌝ }
-{
-    x as u64
-}
-
-fn wide32(x: u32) -> u64
-    ensures { λ r. ⌜ (r ≡ x) × (r < 4294967296) ⌝ }
 {
     x as u64
 }

@@ -16,6 +16,7 @@ use crate::table::Slots;
 use crate::table::party_row;
 use crate::table::wide;
 use crate::test::held;
+use record::bytes::wide32;
 use record::codes::Kind;
 use record::row::Grid;
 use record::row::Row;
@@ -48,12 +49,6 @@ pub fn overlapping(book: &[u8], keys: &[u16; Slots::ALL], band: Row) -> usize
         c = wide(keys[s]);
     }
     sum
-}
-
-fn wide32(x: u32) -> u64
-    ensures { λ r. ⌜ (r ≡ x) × (r ≤ 4294967295) ⌝ }
-{
-    x as u64
 }
 
 fn rate(book: &[u8], keys: &[u16; Slots::ALL], customer: u32, row: Row) -> u64

@@ -18,7 +18,7 @@ add-s c =
     let found = ap (λ (r : Row). r .m1) (key-row _ _ (row .before .before .security-at .ensures)
     (row .row-at .ensures)) in
     let fits = start .pre .1 .1 in
-    let shares = wide .wide .ensures in
+    let shares = wide .wide32 .ensures .0 in
     omega arith
 
 returns : tie.Need-returns
@@ -30,7 +30,7 @@ returns c =
     let put = put-at .put in
     quoted _ _ _ (start .args .entry) (start .pre .1 .0) (row .before .before .security-at .ensures)
     (row .row-at .ensures)
-    (wide .wide .ensures) (ap length (put .ensures .0) ∙ length-putAt _ _ _) (put .ensures .1)
+    (wide .wide32 .ensures .0) (ap length (put .ensures .0) ∙ length-putAt _ _ _) (put .ensures .1)
 
 pub quote-spec : {M : Type 1} → statement M
 quote-spec =
