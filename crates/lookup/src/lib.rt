@@ -5,8 +5,7 @@ ghost use Prim.Native.Nat.{_*_, _+_, _/_, _<_};
 ghost use lib.ListN.{length};
 ghost use Rattle.model.specs.Call.{mostInputs};
 ghost use Rattle.model.specs.Lookup.{looked, lookup};
-ghost use Rattle.model.specs.Names.{aTrade};
-ghost use Rattle.model.specs.Rows.{rows, there, wholeRecords};
+ghost use Rattle.model.specs.Rows.{rows, wholeRecords};
 ghost use Rattle.reply.specs.Left.{answerLeft};
 ghost use Rattle.tables.specs.Bucket.{keyBucket};
 ghost use Rattle.tables.specs.Table.{Indexed};
@@ -21,13 +20,6 @@ use tables::table::Slots;
 use tables::table::id_row;
 use tables::table::id_there;
 
-fn known(book: &[u8], keys: &[u16; Slots::ALL], asked: Row) -> bool
-    requires { ⌜ Indexed keyBucket (now book) (now keys) 0 ⌝ }
-    ensures { λ r. ⌜ r ≡ there (aTrade (asked .id)) (rows (now (book .entry))) ⌝ }
-{
-    id_there(book, keys, Kind::TRADE, asked.id)
-}
-
 // Every record names a trade that is there.
 fn all_known(book: &[u8], keys: &[u16; Slots::ALL], input: &[u8]) -> bool
     requires { ⌜ Indexed keyBucket (now book) (now keys) 0 ⌝ }
@@ -36,7 +28,7 @@ fn all_known(book: &[u8], keys: &[u16; Slots::ALL], input: &[u8]) -> bool
     let n = input.len() / Grid::SIZE;
     let mut i = 0;
     while i < n {
-        if known(book, keys, row_at(input, i)) {
+        if id_there(book, keys, Kind::TRADE, row_at(input, i).id) {
             i += 1;
         } else {
             return false;
