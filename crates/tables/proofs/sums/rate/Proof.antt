@@ -9,7 +9,8 @@ returns : tie.Need-returns
 returns c =
     let yes = c .before .before .if1 in
     let row = c .before .before .before .before .before .before .args .row in
-    (rate-yes _ _ row (yes .taken) (c .before .party-row .ensures) (c .wide32 .ensures .0), omega (arith, c .wide32 .ensures .1))
+    let wide = c .wide32 .ensures in
+    (rate-yes _ _ row (yes .taken) (c .before .party-row .ensures) (wide .0), omega arith)
 
 returns-2 : tie.Need-returns-2
 returns-2 c = (rate-no _ _ (c .before .before .before .before .args .row) (c .if1 .left), omega arith)
