@@ -29,14 +29,12 @@ fn band_at(book: &[u8], keys: &[u16; Slots::ALL], trade: Row, tier: u8, exchange
     ensures { λ r. ⌜ r ≡ place (bandFor (trade .form) tier exchange (trade .n1)) (rows (now (book .entry))) ⌝ }
 {
     let n = book.len() / Grid::SIZE;
-    let h = bucket(Kind::BAND, trade.form, exchange, 0, 0, 0);
-    let mut c = wide(keys[h]);
+    let mut c = wide(keys[bucket(Kind::BAND, trade.form, exchange, 0, 0, 0)]);
     while c < n {
         if holds(trade, tier, exchange, row_at(book, c)) {
             return c;
         }
-        let s = Slots::HEADS + c;
-        c = wide(keys[s]);
+        c = wide(keys[Slots::HEADS + c]);
     }
     c
 }

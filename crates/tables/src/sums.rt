@@ -40,13 +40,11 @@ pub fn overlapping(book: &[u8], keys: &[u16; Slots::ALL], band: Row) -> usize
     ensures { λ r. ⌜ r ≡ count (overlaps band) (rows (now (book .entry))) ⌝ }
 {
     let n = book.len() / Grid::SIZE;
-    let h = bucket(Kind::BAND, band.form, band.flags, 0, 0, 0);
     let mut sum = 0;
-    let mut c = wide(keys[h]);
+    let mut c = wide(keys[bucket(Kind::BAND, band.form, band.flags, 0, 0, 0)]);
     while c < n {
         sum += bit(overlap(band, row_at(book, c)));
-        let s = Slots::HEADS + c;
-        c = wide(keys[s]);
+        c = wide(keys[Slots::HEADS + c]);
     }
     sum
 }
@@ -67,13 +65,11 @@ pub fn rates(book: &[u8], keys: &[u16; Slots::ALL], customer: u32) -> u64
     ensures { λ r. ⌜ r ≡ ratesOf (rows (now (book .entry))) customer ⌝ }
 {
     let n = book.len() / Grid::SIZE;
-    let h = bucket(Kind::CUSTOMER_RATE, 0, 0, customer, 0, 0);
     let mut sum = 0;
-    let mut c = wide(keys[h]);
+    let mut c = wide(keys[bucket(Kind::CUSTOMER_RATE, 0, 0, customer, 0, 0)]);
     while c < n {
         sum += rate(book, keys, customer, row_at(book, c));
-        let s = Slots::HEADS + c;
-        c = wide(keys[s]);
+        c = wide(keys[Slots::HEADS + c]);
     }
     sum
 }
@@ -130,18 +126,16 @@ pub fn holding(book: &[u8], steady: &[u16; Slots::ALL], account: u32, symbol: u6
     ensures { λ r. ⌜ HoldsSide true account symbol (rows (now (book .entry))) (r .owed) ⌝ }
 {
     let n = book.len() / Grid::SIZE;
-    let h = bucket(Kind::LOT, 0, 0, account, 0, symbol);
     let mut many = 0;
     let mut long = 0;
     let mut owed = 0;
-    let mut c = wide(steady[h]);
+    let mut c = wide(steady[bucket(Kind::LOT, 0, 0, account, 0, symbol)]);
     while c < n {
         let more = part(account, symbol, row_at(book, c));
         many += more.lots;
         long += more.long;
         owed += more.owed;
-        let s = Slots::HEADS + c;
-        c = wide(steady[s]);
+        c = wide(steady[Slots::HEADS + c]);
     }
     Held {
         lots: many,
@@ -168,16 +162,14 @@ pub fn historied(book: &[u8], keys: &[u16; Slots::ALL], id: u64, status: u8) -> 
     ensures { λ r. ⌜ r ≡ historyKept (rows (now (book .entry))) id status ⌝ }
 {
     let n = book.len() / Grid::SIZE;
-    let h = bucket(Kind::TRADE_HISTORY, 0, 0, 0, id, 0);
     let mut present = 0;
     let mut above = 0;
-    let mut c = wide(keys[h]);
+    let mut c = wide(keys[bucket(Kind::TRADE_HISTORY, 0, 0, 0, id, 0)]);
     while c < n {
         let row = row_at(book, c);
         present += bit(of_status(id, status, row));
         above += bit(higher(id, status, row));
-        let s = Slots::HEADS + c;
-        c = wide(keys[s]);
+        c = wide(keys[Slots::HEADS + c]);
     }
     (1 <= present) & (above == 0)
 }

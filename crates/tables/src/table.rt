@@ -78,14 +78,12 @@ pub fn by_id(book: &[u8], keys: &[u16; Slots::ALL], kind: u8, id: u64) -> usize
     ensures { λ r. ⌜ r ≡ place (hasKey (byId kind id)) (rows (now (book .entry))) ⌝ }
 {
     let n = book.len() / Grid::SIZE;
-    let h = bucket(kind, 0, 0, 0, id, 0);
-    let mut c = wide(keys[h]);
+    let mut c = wide(keys[bucket(kind, 0, 0, 0, id, 0)]);
     while c < n {
         if of_id(kind, id, row_at(book, c)) {
             return c;
         }
-        let s = Slots::HEADS + c;
-        c = wide(keys[s]);
+        c = wide(keys[Slots::HEADS + c]);
     }
     c
 }
@@ -96,14 +94,12 @@ pub fn by_party(book: &[u8], keys: &[u16; Slots::ALL], kind: u8, party: u32) -> 
     ensures { λ r. ⌜ r ≡ place (hasKey (byParty kind party)) (rows (now (book .entry))) ⌝ }
 {
     let n = book.len() / Grid::SIZE;
-    let h = bucket(kind, 0, 0, party, 0, 0);
-    let mut c = wide(keys[h]);
+    let mut c = wide(keys[bucket(kind, 0, 0, party, 0, 0)]);
     while c < n {
         if of_party(kind, party, row_at(book, c)) {
             return c;
         }
-        let s = Slots::HEADS + c;
-        c = wide(keys[s]);
+        c = wide(keys[Slots::HEADS + c]);
     }
     c
 }
@@ -114,14 +110,12 @@ pub fn trade_at(book: &[u8], steady: &[u16; Slots::ALL], id: u64) -> usize
     ensures { λ r. ⌜ r ≡ place (hasKey (aTrade id)) (rows (now (book .entry))) ⌝ }
 {
     let n = book.len() / Grid::SIZE;
-    let h = bucket(Kind::TRADE, 0, 0, 0, id, 0);
-    let mut c = wide(steady[h]);
+    let mut c = wide(steady[bucket(Kind::TRADE, 0, 0, 0, id, 0)]);
     while c < n {
         if of_id(Kind::TRADE, id, row_at(book, c)) {
             return c;
         }
-        let s = Slots::HEADS + c;
-        c = wide(steady[s]);
+        c = wide(steady[Slots::HEADS + c]);
     }
     c
 }
@@ -131,14 +125,12 @@ pub fn security_at(book: &[u8], steady: &[u16; Slots::ALL], symbol: u64) -> usiz
     ensures { λ r. ⌜ r ≡ place (hasKey (aSecurity symbol)) (rows (now (book .entry))) ⌝ }
 {
     let n = book.len() / Grid::SIZE;
-    let h = bucket(Kind::SECURITY, 0, 0, 0, 0, symbol);
-    let mut c = wide(steady[h]);
+    let mut c = wide(steady[bucket(Kind::SECURITY, 0, 0, 0, 0, symbol)]);
     while c < n {
         if security(symbol, row_at(book, c)) {
             return c;
         }
-        let s = Slots::HEADS + c;
-        c = wide(steady[s]);
+        c = wide(steady[Slots::HEADS + c]);
     }
     c
 }
@@ -148,14 +140,12 @@ pub fn by_holder(book: &[u8], keys: &[u16; Slots::ALL], account: u32, symbol: u6
     ensures { λ r. ⌜ r ≡ place (hasKey (aSummary account symbol)) (rows (now (book .entry))) ⌝ }
 {
     let n = book.len() / Grid::SIZE;
-    let h = bucket(Kind::SUMMARY, 0, 0, account, 0, symbol);
-    let mut c = wide(keys[h]);
+    let mut c = wide(keys[bucket(Kind::SUMMARY, 0, 0, account, 0, symbol)]);
     while c < n {
         if summary(account, symbol, row_at(book, c)) {
             return c;
         }
-        let s = Slots::HEADS + c;
-        c = wide(keys[s]);
+        c = wide(keys[Slots::HEADS + c]);
     }
     c
 }
@@ -235,14 +225,12 @@ pub fn again(book: &[u8], keys: &[u16; Slots::ALL], i: usize, row: Row) -> usize
     ensures { λ r. ⌜ r ≡ seek (hasKey (keyOf row)) (i + 1) (drop (i + 1) (rows (now (book .entry)))) ⌝ }
 {
     let n = book.len() / Grid::SIZE;
-    let t = Slots::HEADS + i;
-    let mut c = wide(keys[t]);
+    let mut c = wide(keys[Slots::HEADS + i]);
     while c < n {
         if twin(row, row_at(book, c)) {
             return c;
         }
-        let s = Slots::HEADS + c;
-        c = wide(keys[s]);
+        c = wide(keys[Slots::HEADS + c]);
     }
     c
 }

@@ -11,13 +11,13 @@ use Rattle.tables.proofs.band.band_at.Statement.{statement}
 use Rattle.tables.proofs.band.band_at.Tie as tie
 
 abbrev Inv-loop : tie.InvT-loop
-Inv-loop book keys trade tier exchange n h c₀ c =
+Inv-loop book keys trade tier exchange n c₀ c =
     Probed keyBucket (bandFor (trade .form) tier exchange (trade .n1))
     (bucketOf kindBand (trade .form) exchange 0 0 0) book
     (place (bandFor (trade .form) tier exchange (trade .n1)) (rows book)) c
 
 abbrev μ-loop : tie.MeasureT-loop
-μ-loop book keys trade tier exchange n h c₀ c = n - c
+μ-loop book keys trade tier exchange n c₀ c = n - c
 
 pub band-at-spec : {M : Type 1} → statement M
 band-at-spec =

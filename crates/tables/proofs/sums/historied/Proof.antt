@@ -13,14 +13,14 @@ use Rattle.tables.proofs.sums.historied.Statement.{statement}
 use Rattle.tables.proofs.sums.historied.Tie as tie
 
 abbrev Inv-loop : tie.InvT-loop
-Inv-loop book keys id status n h present₀ above₀ c₀ present above c =
+Inv-loop book keys id status n present₀ above₀ c₀ present above c =
     Tallied keyBucket (λ r. bit (hasKey (aHistory id status) r)) 1 (bucketOf kindTradeHistory 0 0 0 id 0) book
     (count (hasKey (aHistory id status)) (rows book)) present c
     × Tallied keyBucket (λ r. bit (higherThan id status r)) 1 (bucketOf kindTradeHistory 0 0 0 id 0) book
     (count (higherThan id status) (rows book)) above c
 
 abbrev μ-loop : tie.MeasureT-loop
-μ-loop book keys id status n h present₀ above₀ c₀ present above c = n - c
+μ-loop book keys id status n present₀ above₀ c₀ present above c = n - c
 
 loop-holds : tie.Need-loop-holds Inv-loop μ-loop
 unfolding count

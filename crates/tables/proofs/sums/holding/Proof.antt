@@ -16,7 +16,7 @@ use Rattle.tables.proofs.sums.holding.Statement.{statement}
 use Rattle.tables.proofs.sums.holding.Tie as tie
 
 abbrev Inv-loop : tie.InvT-loop
-Inv-loop book steady account symbol n h many₀ long₀ owed₀ c₀ many long owed c =
+Inv-loop book steady account symbol n many₀ long₀ owed₀ c₀ many long owed c =
     Tallied steadyBucket (λ r. bit (lotOf account symbol r)) 1 (bucketOf kindLot 0 0 account 0 symbol) book
     (count (lotOf account symbol) (rows book)) many c
     × (Tallied steadyBucket (sharesPart false account symbol) sharesMost (bucketOf kindLot 0 0 account 0 symbol) book
@@ -25,7 +25,7 @@ Inv-loop book steady account symbol n h many₀ long₀ owed₀ c₀ many long o
     (total (sharesPart true account symbol) (rows book)) owed c)
 
 abbrev μ-loop : tie.MeasureT-loop
-μ-loop book steady account symbol n h many₀ long₀ owed₀ c₀ many long owed c = n - c
+μ-loop book steady account symbol n many₀ long₀ owed₀ c₀ many long owed c = n - c
 
 loop-holds : tie.Need-loop-holds Inv-loop μ-loop
 unfolding count

@@ -13,12 +13,12 @@ use Rattle.tables.proofs.sums.overlapping.Statement.{statement}
 use Rattle.tables.proofs.sums.overlapping.Tie as tie
 
 abbrev Inv-loop : tie.InvT-loop
-Inv-loop book keys band n h sum₀ c₀ sum c =
+Inv-loop book keys band n sum₀ c₀ sum c =
     Tallied keyBucket (λ r. bit (overlaps band r)) 1 (bucketOf kindBand (band .form) (band .flags) 0 0 0) book
     (count (overlaps band) (rows book)) sum c
 
 abbrev μ-loop : tie.MeasureT-loop
-μ-loop book keys band n h sum₀ c₀ sum c = n - c
+μ-loop book keys band n sum₀ c₀ sum c = n - c
 
 pub overlapping-spec : {M : Type 1} → statement M
 unfolding count

@@ -12,12 +12,12 @@ use Rattle.tables.proofs.sums.rates.Statement.{statement}
 use Rattle.tables.proofs.sums.rates.Tie as tie
 
 abbrev Inv-loop : tie.InvT-loop
-Inv-loop book keys customer n h sum₀ c₀ sum c =
+Inv-loop book keys customer n sum₀ c₀ sum c =
     Tallied keyBucket (rateOf (rows book) customer) 4294967295 (bucketOf kindCustomerRate 0 0 customer 0 0) book
     (ratesOf (rows book) customer) sum c
 
 abbrev μ-loop : tie.MeasureT-loop
-μ-loop book keys customer n h sum₀ c₀ sum c = n - c
+μ-loop book keys customer n sum₀ c₀ sum c = n - c
 
 pub rates-spec : {M : Type 1} → statement M
 unfolding ratesOf

@@ -12,12 +12,12 @@ use Rattle.tables.proofs.table.again.Statement.{statement}
 use Rattle.tables.proofs.table.again.Tie as tie
 
 abbrev Inv-loop : tie.InvT-loop
-Inv-loop book keys i row n t c₀ c =
+Inv-loop book keys i row n c₀ c =
     Probed keyBucket (hasKey (keyOf row)) (keyBucket row) book
     (seek (hasKey (keyOf row)) (i + 1) (drop (i + 1) (rows book))) c
 
 abbrev μ-loop : tie.MeasureT-loop
-μ-loop book keys i row n t c₀ c = n - c
+μ-loop book keys i row n c₀ c = n - c
 
 pub again-spec : {M : Type 1} → statement M
 again-spec =

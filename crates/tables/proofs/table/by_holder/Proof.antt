@@ -11,12 +11,12 @@ use Rattle.tables.proofs.table.by_holder.Statement.{statement}
 use Rattle.tables.proofs.table.by_holder.Tie as tie
 
 abbrev Inv-loop : tie.InvT-loop
-Inv-loop book keys account symbol n h c₀ c =
+Inv-loop book keys account symbol n c₀ c =
     Probed keyBucket (hasKey (aSummary account symbol)) (bucketOf kindSummary 0 0 account 0 symbol) book
     (place (hasKey (aSummary account symbol)) (rows book)) c
 
 abbrev μ-loop : tie.MeasureT-loop
-μ-loop book keys account symbol n h c₀ c = n - c
+μ-loop book keys account symbol n c₀ c = n - c
 
 pub by-holder-spec : {M : Type 1} → statement M
 by-holder-spec =

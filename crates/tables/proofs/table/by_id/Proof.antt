@@ -11,12 +11,12 @@ use Rattle.tables.proofs.table.by_id.Statement.{statement}
 use Rattle.tables.proofs.table.by_id.Tie as tie
 
 abbrev Inv-loop : tie.InvT-loop
-Inv-loop book keys kind id n h c₀ c =
+Inv-loop book keys kind id n c₀ c =
     Probed keyBucket (hasKey (byId kind id)) (bucketOf kind 0 0 0 id 0) book
     (place (hasKey (byId kind id)) (rows book)) c
 
 abbrev μ-loop : tie.MeasureT-loop
-μ-loop book keys kind id n h c₀ c = n - c
+μ-loop book keys kind id n c₀ c = n - c
 
 pub by-id-spec : {M : Type 1} → statement M
 by-id-spec =

@@ -10,12 +10,12 @@ use Rattle.tables.proofs.table.by_party.Statement.{statement}
 use Rattle.tables.proofs.table.by_party.Tie as tie
 
 abbrev Inv-loop : tie.InvT-loop
-Inv-loop book keys kind party n h c₀ c =
+Inv-loop book keys kind party n c₀ c =
     Probed keyBucket (hasKey (byParty kind party)) (bucketOf kind 0 0 party 0 0) book
     (place (hasKey (byParty kind party)) (rows book)) c
 
 abbrev μ-loop : tie.MeasureT-loop
-μ-loop book keys kind party n h c₀ c = n - c
+μ-loop book keys kind party n c₀ c = n - c
 
 pub by-party-spec : {M : Type 1} → statement M
 by-party-spec =

@@ -11,12 +11,12 @@ use Rattle.tables.proofs.table.security_at.Statement.{statement}
 use Rattle.tables.proofs.table.security_at.Tie as tie
 
 abbrev Inv-loop : tie.InvT-loop
-Inv-loop book steady symbol n h c₀ c =
+Inv-loop book steady symbol n c₀ c =
     Probed steadyBucket (hasKey (aSecurity symbol)) (bucketOf kindSecurity 0 0 0 0 symbol) book
     (place (hasKey (aSecurity symbol)) (rows book)) c
 
 abbrev μ-loop : tie.MeasureT-loop
-μ-loop book steady symbol n h c₀ c = n - c
+μ-loop book steady symbol n c₀ c = n - c
 
 pub security-at-spec : {M : Type 1} → statement M
 security-at-spec =

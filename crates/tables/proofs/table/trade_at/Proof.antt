@@ -11,12 +11,12 @@ use Rattle.tables.proofs.table.trade_at.Statement.{statement}
 use Rattle.tables.proofs.table.trade_at.Tie as tie
 
 abbrev Inv-loop : tie.InvT-loop
-Inv-loop book steady id n h c₀ c =
+Inv-loop book steady id n c₀ c =
     Probed steadyBucket (hasKey (aTrade id)) (bucketOf kindTrade 0 0 0 id 0) book
     (place (hasKey (aTrade id)) (rows book)) c
 
 abbrev μ-loop : tie.MeasureT-loop
-μ-loop book steady id n h c₀ c = n - c
+μ-loop book steady id n c₀ c = n - c
 
 pub trade-at-spec : {M : Type 1} → statement M
 trade-at-spec =
