@@ -15,7 +15,7 @@ use Rattle.laws.specs.Search.{every, keep, place, run, total}
 use Rattle.laws.specs.Sort.{every-sort, sort, sort-map}
 use Rattle.laws.specs.Tests.{and-left, and-right, and-true}
 use Rattle.laws.specs.Walk.{from-holds, left-next, left-none}
-use Rattle.record.specs.Codes.{kindFree, kindRequest, kindSecurity, kindTrade, pending, submitted}
+use Rattle.record.specs.Codes.{kindFree, kindRequest, kindSecurity, kindTrade, pending}
 use Rattle.record.specs.declared.row.Row.{Row}
 use Rattle.rules.specs.Ranges.{id, kind, m1, n1, status, volume, when}
 use Rattle.model.specs.Edit.{_≔_, changed}

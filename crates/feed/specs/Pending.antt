@@ -10,11 +10,10 @@ use borrow.Author.Tests.{eqb-true}
 use Rattle.laws.specs.Change.{put}
 use Rattle.laws.specs.Search.{every, keep, run}
 use Rattle.laws.specs.Tests.{and-assoc, and-false, and-right, and-true}
-use Rattle.record.specs.Codes.{kindTrade, pending, submitted}
+use Rattle.record.specs.Codes.{kindTrade, pending}
 use Rattle.record.specs.declared.row.Row.{Row}
 use Rattle.rules.specs.Ranges.{id, status}
-use Rattle.model.specs.Edit.{_≔_}
-use Rattle.model.specs.Feed.{submit, submits, traded}
+use Rattle.model.specs.Feed.{submit, traded}
 use Rattle.model.specs.Names.{aSecurity, aTrade}
 use Rattle.model.specs.Rows.{found, hasKey, is, nothing, sameRow, there}
 use Rattle.shelf.specs.Put.{found-has, found-none, found-other, found-same, there-alike}

@@ -10,7 +10,7 @@ use lib.Dec.{eqb}
 use lib.ListN.{length, getD}
 use borrow.Author.Tests.{eq-eqb, eqb-true, ne-eqb}
 use Rattle.laws.specs.Keep.{keep-from, map-on}
-use Rattle.laws.specs.Search.{keep, run, the}
+use Rattle.laws.specs.Search.{keep, run}
 use Rattle.laws.specs.Sort.{sort, sort-map, sort-map-of}
 use Rattle.laws.specs.Tests.{_⇔_, and-left}
 use Rattle.record.specs.Codes.{kindLot}

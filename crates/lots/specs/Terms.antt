@@ -1,13 +1,13 @@
 -- What a call that trades reads of a book, and the range that a sound book keeps it in. Assumes nothing.
 use mathlib.Core.Path.{_≡_, refl, sym, subst, _∙_}
 use mathlib.Core.Bool.{Bool, true, false, not, false≢true}
-use mathlib.Core.List.{List, [], _∷_, List·Memᴰ, List·Memᴰ·head, List·Memᴰ·tail}
+use mathlib.Core.List.{List, List·Memᴰ, List·Memᴰ·head}
 use Prim.Native.Nat.{ℕ, _≤_}
 use native.Mathlib.Omega.{arith}
 use lib.Dec.{eqb, leb}
 use borrow.Author.Tests.{eqb-false, eqb-true, le-leb, lt-leb}
 use Rattle.laws.specs.Keep.{the-has}
-use Rattle.laws.specs.Search.{count, the, total}
+use Rattle.laws.specs.Search.{count, total}
 use Rattle.laws.specs.Total.{total-zero}
 use Rattle.laws.specs.Tests.{and-left, and-right}
 use Rattle.record.specs.Codes.{kindBand, kindCustomer, kindCustomerRate}

@@ -21,7 +21,7 @@ use Rattle.record.specs.KeyLaws.{same-keys}
 use Rattle.record.specs.declared.row.Row.{Row}
 use Rattle.rules.specs.Meaning.{means-fits, means-lot}
 use Rattle.rules.specs.Ranges.{sharesMost}
-use Rattle.rules.specs.Rules.{as-kind, fits}
+use Rattle.rules.specs.Rules.{as-kind}
 use Rattle.model.specs.Flags.{lifo}
 use Rattle.model.specs.Lots.{before, closes, lotsFor, size}
 use Rattle.model.specs.Names.{aLot}
