@@ -5,10 +5,9 @@ ghost use mathlib.Core.Bool.{true};
 ghost use Prim.Native.Nat.{_/_, _<_};
 ghost use lib.ListN.{length};
 ghost use Rattle.model.specs.Call.{Promise, feedCall, isDone, lookupCall, orderCall, resultCall};
-ghost use Rattle.model.specs.Rows.{mostRecords, wholeRecords};
+ghost use Rattle.model.specs.Rows.{mostRecords, recordSize, rows, wholeRecords};
 ghost use Rattle.reply.specs.Left.{answerLeft, bookLeft};
-ghost use Rattle.book.specs.Shell.{Empty, Opened, feedDecided, feedLengths, lookupDecided};
-ghost use Rattle.book.specs.Shell.{lookupLengths, oneLengths, opening, orderDecided, resultDecided};
+ghost use Rattle.book.specs.Shell.{Empty, Opened, callOf, decideOf, fieldsOf, longOf, lookupLengths, opening};
 use feed::feed;
 use inputs::all_feed;
 use inputs::all_lookup;
@@ -41,8 +40,8 @@ fn records(book: &[u8]) -> u16
     0
 }
 
-// The shell of every call: the book's length, its soundness and the input's fields. Where it finds no fault the tables
-// are the book's.
+// The checks of every call: the book's length, its soundness and the input's fields. Where they find no fault the
+// tables are the book's.
 fn opened(
     book: &[u8],
     inputs: bool,
@@ -51,7 +50,7 @@ fn opened(
 ) -> Status
     requires { ⌜ (wholeRecords mostRecords (length (now book)) ≡ true → Empty (now book) (now keys) (now steady)) ⌝ }
     ensures { λ r. ⌜ r ≡ opening inputs (now (book .entry)) ⌝ }
-    ensures { λ r. ⌜ (isDone r ≡ true → Opened (now (book .entry)) (now (keys .exit)) (now (steady .exit))) ⌝ }
+    ensures { λ r. ⌜ (isDone r ≡ true → Opened inputs (now (book .entry)) (now (keys .exit)) (now (steady .exit))) ⌝ }
 {
     if !whole(book.len(), Most::RECORDS) {
         return Status::BadBook;
@@ -66,108 +65,80 @@ fn opened(
     Status::BadInput
 }
 
-fn lookup_lengths(input: usize, answer: usize) -> bool
-    ensures { λ r. ⌜ r ≡ lookupLengths input answer ⌝ }
-{
-    if whole(input, Most::INPUTS) {
-        return answer == 2 * input;
-    }
-    false
+// The calls that change a book.
+enum Call {
+    Order,
+    Result,
+    Feed,
 }
 
-fn lookup_on(book: &[u8], input: &[u8], answer: &mut [u8]) -> Status
-    requires { ⌜ lookupLengths (length (now input)) (length (now answer)) ≡ true ⌝ }
-    ensures { λ r. ⌜ r ≡ lookupDecided (now (book .entry)) (now (input .entry)) .status ⌝ }
+// The input has a length that the call takes.
+fn long(call: Call, input: usize) -> bool
+    ensures { λ r. ⌜ r ≡ longOf call input ⌝ }
+{
+    match call {
+        Call::Order => input == Grid::SIZE,
+        Call::Result => input == Grid::SIZE,
+        Call::Feed => whole(input, Most::INPUTS),
+    }
+}
+
+// Every field of the input keeps its rule.
+fn fields(call: Call, input: &[u8]) -> bool
+    requires { ⌜ longOf call (length (now input)) ≡ true ⌝ }
+    ensures { λ r. ⌜ r ≡ fieldsOf call (now (input .entry)) ⌝ }
+{
+    match call {
+        Call::Order => is_order(input),
+        Call::Result => is_result(input),
+        Call::Feed => all_feed(input),
+    }
+}
+
+// The inner call, on a book that no check refuses.
+fn decide(
+    call: Call,
+    book: &mut [u8],
+    keys: &[u16; Slots::ALL],
+    steady: &[u16; Slots::ALL],
+    input: &[u8],
+    answer: &mut [u8],
+) -> Status
+    requires { ⌜ Opened (fieldsOf call (now input)) (now book) (now keys) (now steady) ⌝ }
+    requires { ⌜ (longOf call (length (now input)) ≡ true) × (length (now answer) ≡ recordSize) ⌝ }
+    ensures { λ r. ⌜ r ≡ decideOf call (now (input .entry)) (rows (now (book .entry))) .status ⌝ }
+    ensures { λ _.
+        ⌜ now (book .exit)
+        ≡ bookLeft (decideOf call (now (input .entry)) (rows (now (book .entry)))) (now (book .entry)) ⌝ }
     ensures { λ _.
         ⌜ now (answer .exit)
-        ≡ answerLeft (lookupDecided (now (book .entry)) (now (input .entry))) (now (answer .entry)) ⌝ }
+        ≡ answerLeft (decideOf call (now (input .entry)) (rows (now (book .entry)))) (now (answer .entry)) ⌝ }
 {
-    let none = records(book);
-    let mut keys = [none; Slots::ALL];
-    let mut steady = [none; Slots::ALL];
-    let s = opened(book, all_lookup(input), &mut keys, &mut steady);
-    if done(s) {
-        return lookup(book, &keys, input, answer);
+    match call {
+        Call::Order => order(book, keys, steady, Row::read(input), answer),
+        Call::Result => result(book, keys, steady, Row::read(input), answer),
+        Call::Feed => feed(book, steady, input, answer),
     }
-    s
 }
 
-// Trade-Lookup by trade number.
-#[no_mangle]
-pub extern "C" fn book_lookup(book: &[u8], input: &[u8], answer: &mut [u8]) -> i32
+// The shell of a call that changes a book, around the inner call.
+fn called(call: Call, book: &mut [u8], input: &[u8], answer: &mut [u8]) -> i32
     ensures { λ r.
-        ⌜ Promise (lookupCall (now (book .entry)) (now (input .entry)) (now (answer .entry))) r (now (book .entry))
+        ⌜ Promise (callOf call (now (book .entry)) (now (input .entry)) (now (answer .entry))) r (now (book .exit))
         (now (answer .exit)) ⌝ }
 {
-    if lookup_lengths(input.len(), answer.len()) {
-        let s = lookup_on(book, input, answer);
-        return finish(answer, s);
+    if !(long(call, input.len()) & (answer.len() == Grid::SIZE)) {
+        return code(Status::BadLength);
     }
-    code(Status::BadLength)
-}
-
-fn feed_lengths(input: usize, answer: usize) -> bool
-    ensures { λ r. ⌜ r ≡ feedLengths input answer ⌝ }
-{
-    whole(input, Most::INPUTS) & (answer == Grid::SIZE)
-}
-
-fn feed_on(book: &mut [u8], input: &[u8], answer: &mut [u8]) -> Status
-    requires { ⌜ feedLengths (length (now input)) (length (now answer)) ≡ true ⌝ }
-    ensures { λ r. ⌜ r ≡ feedDecided (now (book .entry)) (now (input .entry)) .status ⌝ }
-    ensures { λ _.
-        ⌜ now (book .exit) ≡ bookLeft (feedDecided (now (book .entry)) (now (input .entry))) (now (book .entry)) ⌝ }
-    ensures { λ _.
-        ⌜ now (answer .exit)
-        ≡ answerLeft (feedDecided (now (book .entry)) (now (input .entry))) (now (answer .entry)) ⌝ }
-{
     let none = records(book);
     let mut keys = [none; Slots::ALL];
     let mut steady = [none; Slots::ALL];
-    let s = opened(book, all_feed(input), &mut keys, &mut steady);
-    if done(s) {
-        return feed(book, &steady, input, answer);
-    }
-    s
-}
-
-// Market-Feed.
-#[no_mangle]
-pub extern "C" fn book_feed(book: &mut [u8], input: &[u8], answer: &mut [u8]) -> i32
-    ensures { λ r.
-        ⌜ Promise (feedCall (now (book .entry)) (now (input .entry)) (now (answer .entry))) r (now (book .exit))
-        (now (answer .exit)) ⌝ }
-{
-    if feed_lengths(input.len(), answer.len()) {
-        let s = feed_on(book, input, answer);
+    let s = opened(book, fields(call, input), &mut keys, &mut steady);
+    if !done(s) {
         return finish(answer, s);
     }
-    code(Status::BadLength)
-}
-
-fn one_lengths(input: usize, answer: usize) -> bool
-    ensures { λ r. ⌜ r ≡ oneLengths input answer ⌝ }
-{
-    (input == Grid::SIZE) & (answer == Grid::SIZE)
-}
-
-fn order_on(book: &mut [u8], input: &[u8], answer: &mut [u8]) -> Status
-    requires { ⌜ oneLengths (length (now input)) (length (now answer)) ≡ true ⌝ }
-    ensures { λ r. ⌜ r ≡ orderDecided (now (book .entry)) (now (input .entry)) .status ⌝ }
-    ensures { λ _.
-        ⌜ now (book .exit) ≡ bookLeft (orderDecided (now (book .entry)) (now (input .entry))) (now (book .entry)) ⌝ }
-    ensures { λ _.
-        ⌜ now (answer .exit)
-        ≡ answerLeft (orderDecided (now (book .entry)) (now (input .entry))) (now (answer .entry)) ⌝ }
-{
-    let none = records(book);
-    let mut keys = [none; Slots::ALL];
-    let mut steady = [none; Slots::ALL];
-    let s = opened(book, is_order(input), &mut keys, &mut steady);
-    if done(s) {
-        return order(book, &keys, &steady, Row::read(input), answer);
-    }
-    s
+    let t = decide(call, book, &keys, &steady, input, answer);
+    finish(answer, t)
 }
 
 // Trade-Order.
@@ -177,30 +148,7 @@ pub extern "C" fn book_order(book: &mut [u8], input: &[u8], answer: &mut [u8]) -
         ⌜ Promise (orderCall (now (book .entry)) (now (input .entry)) (now (answer .entry))) r (now (book .exit))
         (now (answer .exit)) ⌝ }
 {
-    if one_lengths(input.len(), answer.len()) {
-        let s = order_on(book, input, answer);
-        return finish(answer, s);
-    }
-    code(Status::BadLength)
-}
-
-fn result_on(book: &mut [u8], input: &[u8], answer: &mut [u8]) -> Status
-    requires { ⌜ oneLengths (length (now input)) (length (now answer)) ≡ true ⌝ }
-    ensures { λ r. ⌜ r ≡ resultDecided (now (book .entry)) (now (input .entry)) .status ⌝ }
-    ensures { λ _.
-        ⌜ now (book .exit) ≡ bookLeft (resultDecided (now (book .entry)) (now (input .entry))) (now (book .entry)) ⌝ }
-    ensures { λ _.
-        ⌜ now (answer .exit)
-        ≡ answerLeft (resultDecided (now (book .entry)) (now (input .entry))) (now (answer .entry)) ⌝ }
-{
-    let none = records(book);
-    let mut keys = [none; Slots::ALL];
-    let mut steady = [none; Slots::ALL];
-    let s = opened(book, is_result(input), &mut keys, &mut steady);
-    if done(s) {
-        return result(book, &keys, &steady, Row::read(input), answer);
-    }
-    s
+    called(Call::Order, book, input, answer)
 }
 
 // Trade-Result.
@@ -210,9 +158,46 @@ pub extern "C" fn book_result(book: &mut [u8], input: &[u8], answer: &mut [u8]) 
         ⌜ Promise (resultCall (now (book .entry)) (now (input .entry)) (now (answer .entry))) r (now (book .exit))
         (now (answer .exit)) ⌝ }
 {
-    if one_lengths(input.len(), answer.len()) {
-        let s = result_on(book, input, answer);
+    called(Call::Result, book, input, answer)
+}
+
+// Market-Feed.
+#[no_mangle]
+pub extern "C" fn book_feed(book: &mut [u8], input: &[u8], answer: &mut [u8]) -> i32
+    ensures { λ r.
+        ⌜ Promise (feedCall (now (book .entry)) (now (input .entry)) (now (answer .entry))) r (now (book .exit))
+        (now (answer .exit)) ⌝ }
+{
+    called(Call::Feed, book, input, answer)
+}
+
+// A lookup only reads the book, and has a shell of its own.
+fn lookup_lengths(input: usize, answer: usize) -> bool
+    ensures { λ r. ⌜ r ≡ lookupLengths input answer ⌝ }
+{
+    if whole(input, Most::INPUTS) {
+        return answer == 2 * input;
+    }
+    false
+}
+
+// Trade-Lookup by trade number.
+#[no_mangle]
+pub extern "C" fn book_lookup(book: &[u8], input: &[u8], answer: &mut [u8]) -> i32
+    ensures { λ r.
+        ⌜ Promise (lookupCall (now (book .entry)) (now (input .entry)) (now (answer .entry))) r (now (book .entry))
+        (now (answer .exit)) ⌝ }
+{
+    if !lookup_lengths(input.len(), answer.len()) {
+        return code(Status::BadLength);
+    }
+    let none = records(book);
+    let mut keys = [none; Slots::ALL];
+    let mut steady = [none; Slots::ALL];
+    let s = opened(book, all_lookup(input), &mut keys, &mut steady);
+    if !done(s) {
         return finish(answer, s);
     }
-    code(Status::BadLength)
+    let t = lookup(book, &keys, input, answer);
+    finish(answer, t)
 }

@@ -1,65 +1,104 @@
--- The lengths, the lookup and its end, which is the answer that the rules define. Assumes nothing.
-use mathlib.Core.Path.{_≡_, sym, _∙_}
+-- The lengths, the shell's checks, the lookup and its end, which is the answer that the rules define. Assumes nothing.
 use native.Mathlib.Omega.{arith}
-use lib.ListN.{length}
 use Rattle.model.specs.Call.{lookupCall}
 use Rattle.model.specs.declared.Status.the-variants.{BadLength}
 use Rattle.reply.specs.Back.{number-back}
-use Rattle.reply.specs.Left.{promised}
-use Rattle.book.specs.Shell.{called, lookup-left, lookup-long, lookupDecided, lookupLengths, some, uncalled}
+use Rattle.sound.specs.ByRow.{rule-kept, rule-lost}
+use Rattle.book.specs.Shell.{decides, empty, lookup-left, lookup-long, lookupLengths, refuses, some, uncalled}
 use borrow.Author.Needs.{needs}
 use Rattle.book.proofs.book_lookup.Statement.{statement}
 use Rattle.book.proofs.book_lookup.Tie as tie
 
-lookup-on-requires : tie.Need-lookup-on-requires
-lookup-on-requires c κs = sym (c .before .before .lookup-lengths .ensures) ∙ c .before .if1 .taken
-
-finish-requires : tie.Need-finish-requires
-finish-requires c κs =
-    let on = c .before .before .before in
-    let test = on .before .before in
-    let lookup-lengths = test .before in
-    let start = lookup-lengths .before .before .before .before in
-    let long = lookup-long _ _ (sym (lookup-lengths .lookup-lengths .ensures) ∙ test .if1 .taken) in
-    let whole = some _ _ (long .0) in
-    let twice = long .1 in
-    let same : length (on .lookup-on .last .1 .1 .0) ≡ length (start .args .answer .now) = search needs in
-    omega arith
-
 returns : tie.Need-returns
 unfolding lookupCall lookupLengths
 returns c =
-    let finish = c .before .before in
-    let on = finish .before .before .before .before in
-    let test = on .before .before in
-    let lookup-lengths = test .before in
-    let shared-slice-known = lookup-lengths .before .before .before in
-    let start = shared-slice-known .before in
-    let long = sym (lookup-lengths .lookup-lengths .ensures) ∙ test .if1 .taken in
-    let b = start .args .book .now in
-    let i = start .args .input .now in
-    let a = start .args .answer .now in
-    let book = lookup-left b i a (λ j. shared-slice-known .shared-slice-known .given j .fits) long in
-    let same : length (on .lookup-on .last .1 .1 .0) ≡ length a = search needs in
-    let end = finish .finish in
-    rw (called _ _ b a long)
-    (promised (lookupDecided b i) b a (on .lookup-on .ensures .0) book (on .lookup-on .ensures .1) same
-    (number-back (end .result) (on .lookup-on .result) (end .ensures .0)) (end .ensures .1))
+    let lengths = rule-lost (c .before .before .lookup-lengths .ensures) (c .before .if1 .taken) in
+    uncalled _ _ _ _ lengths (number-back (c .code .result) BadLength (c .code .ensures))
+
+opened-requires : tie.Need-opened-requires
+opened-requires c κs = empty _ _ (c .before .before .before .records .ensures)
+
+finish-requires : tie.Need-finish-requires
+finish-requires c κs =
+    let test = c .before .before .before .before .before .before .before .before in
+    let long = lookup-long _ _ (rule-kept (test .before .lookup-lengths .ensures) (test .if1 .left)) in
+    let whole = some _ _ (long .0) in
+    let twice = long .1 in
+    omega arith
 
 returns-2 : tie.Need-returns-2
 unfolding lookupCall lookupLengths
 returns-2 c =
-    let lengths = c .before .before .lookup-lengths .ensures in
-    uncalled _ _ _ _ (sym lengths ∙ c .before .if1 .left) (number-back (c .code .result) BadLength (c .code .ensures))
+    let finish = c .before .before in
+    let test = finish .before .before in
+    let opened = test .before .before in
+    let all-lookup = opened .before .before .before in
+    let lengths = all-lookup .before .before in
+    let start = lengths .before .before .before .before .before in
+    let long = rule-kept (lengths .before .lookup-lengths .ensures) (lengths .if1 .left) in
+    let end = finish .finish in
+    refuses _ (start .args .book .now) (start .args .answer .now) long (all-lookup .all-lookup .ensures)
+    (opened .opened .ensures .0)
+    (rule-lost (test .before .done .ensures) (test .if2 .taken))
+    (number-back (end .result) (opened .opened .result) (end .ensures .0)) (end .ensures .1)
+
+lookup-requires : tie.Need-lookup-requires
+lookup-requires c κs =
+    let test = c .before .before in
+    let opened = test .before .before in
+    let lengths = opened .before .before .before .before .before in
+    let found = opened .opened .ensures .1 (rule-kept (test .before .done .ensures) (test .if2 .left)) in
+    (found .by-key, lookup-long _ _ (rule-kept (lengths .before .lookup-lengths .ensures) (lengths .if1 .left)))
+
+finish-requires-2 : tie.Need-finish-requires-2
+finish-requires-2 c κs =
+    let lookup = c .before .before .before in
+    let lengths = lookup .before .before .before .before .before .before .before .before .before .before in
+    let long = lookup-long _ _ (rule-kept (lengths .before .lookup-lengths .ensures) (lengths .if1 .left)) in
+    let whole = some _ _ (long .0) in
+    let twice = long .1 in
+    let same = lookup .lookup .kept .1 .1 .1 .0 in
+    omega arith
+
+returns-3 : tie.Need-returns-3
+unfolding lookupCall lookupLengths
+returns-3 c =
+    let finish = c .before .before in
+    let lookup = finish .before .before .before .before in
+    let test = lookup .before .before .before in
+    let opened = test .before .before in
+    let all-lookup = opened .before .before .before in
+    let lengths = all-lookup .before .before in
+    let known = lengths .before .before .before .before in
+    let start = known .before in
+    let long = rule-kept (lengths .before .lookup-lengths .ensures) (lengths .if1 .left) in
+    let done = rule-kept (test .before .done .ensures) (test .if2 .left) in
+    let b = start .args .book .now in
+    let a = start .args .answer .now in
+    let on = lookup .lookup in
+    let inputs = all-lookup .all-lookup .ensures in
+    let checks = opened .opened .ensures .0 in
+    let left = lookup-left b (start .args .input .now) a (λ j. known .shared-slice-known .given j .fits) long inputs
+    checks done in
+    let end = finish .finish2 in
+    decides _ b a long inputs checks done (on .ensures .0) left (on .ensures .1) (on .kept .1 .1 .1 .0)
+    (number-back (end .result) (on .result) (end .ensures .0)) (end .ensures .1)
 
 pub book-lookup-spec : {M : Type 1} → statement M
 book-lookup-spec =
     tie.close
     (tie.spec
     (λ c κs. search needs)
-    lookup-on-requires
-    finish-requires
-    (λ c. search needs)
+    (λ c κs. search needs)
     returns
     (λ c κs. search needs)
-    returns-2)
+    (λ c κs. search needs)
+    opened-requires
+    (λ c κs. search needs)
+    finish-requires
+    (λ c. search needs)
+    returns-2
+    lookup-requires
+    finish-requires-2
+    (λ c. search needs)
+    returns-3)
