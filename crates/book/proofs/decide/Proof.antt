@@ -15,13 +15,9 @@ order-requires c κs =
     let told = read .before .before in
     let start = told .before .before .before .before .before in
     let found = start .pre .0 in
-    let good = rw (told .enum-told .given .1) at (found .is-good) in (
-      found .by-key,
-      (
-        found .steadily,
-        ((found .is-sound, found .is-whole), (rw (read .read .ensures) good, start .pre .1 .1)),
-      ),
-    )
+    let good = rw (told .enum-told .given .1) at (found .is-good) in
+    let long = start .pre .1 .1 in
+    (found .by-key, (found .steadily, ((found .is-sound, found .is-whole), (rw (read .read .ensures) good, long))))
 
 read-requires-2 : tie.Need-read-requires-2
 read-requires-2 c κs =
@@ -34,13 +30,9 @@ result-requires c κs =
     let told = read .before .before in
     let start = told .before .before .before .before .before in
     let found = start .pre .0 in
-    let good = rw (told .enum-told2 .given .1) at (found .is-good) in (
-      found .by-key,
-      (
-        found .steadily,
-        ((found .is-sound, found .is-whole), (rw (read .read2 .ensures) good, start .pre .1 .1)),
-      ),
-    )
+    let good = rw (told .enum-told2 .given .1) at (found .is-good) in
+    let long = start .pre .1 .1 in
+    (found .by-key, (found .steadily, ((found .is-sound, found .is-whole), (rw (read .read2 .ensures) good, long))))
 
 feed-requires : tie.Need-feed-requires
 feed-requires c κs =
