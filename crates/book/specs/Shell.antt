@@ -4,7 +4,7 @@
 use mathlib.Core.Path.{_≡_, refl, sym, ap, _∙_}
 use mathlib.Core.Bool.{Bool, true, false, cond, not, _&&_}
 use mathlib.Core.List.{List}
-use Prim.Native.Nat.{ℕ, _*_, _/_, _%_, _^_, _≤_, _<_}
+use Prim.Native.Nat.{ℕ, _*_, _/_, _%_, _≤_, _<_}
 use native.Mathlib.Omega.{arith}
 use lib.Dec.{eqb, leb}
 use lib.IntN.{ℤ}
@@ -54,14 +54,13 @@ pub record Empty (b keys steady : List ℕ) : Type 0 where
   pub steadily : Blank b steady
 
 -- ---- the checks
-few-bytes : (most n : ℕ) → wholeRecords most n ≡ true → n ≤ most * 64
-unfolding wholeRecords
-few-bytes most n e = leb-true n (most * 64) (and-right (leb 64 n && eqb (n % 64) 0) (leb n (most * 64)) e)
-
 pub few : (most n : ℕ) → wholeRecords most n ≡ true → n / 64 ≤ most
-few most n e = let l = few-bytes most n e in omega arith
+unfolding wholeRecords
+few most n e =
+    let l = leb-true n (most * 64) (and-right (leb 64 n && eqb (n % 64) 0) (leb n (most * 64)) e) in
+    omega arith
 
-pub some : (most n : ℕ) → wholeRecords most n ≡ true → 64 ≤ n
+some : (most n : ℕ) → wholeRecords most n ≡ true → 64 ≤ n
 unfolding wholeRecords
 some most n e =
     let two = and-left (leb 64 n && eqb (n % 64) 0) (leb n (most * 64)) e in
@@ -100,6 +99,17 @@ module _ (inputs : Bool) (b : List ℕ) {x : Bool} (h : x ≡ wholeRecords mostR
         let s = rule-kept g f in
         let w = rule-kept h e in
         (rw (w, s, i), λ z. record { by-key = p; steadily = q; is-sound = s; is-whole = w; is-good = i })
+
+-- ---- the lengths of an input and of an answer that has n bytes
+module _ {x y : Bool} (a : List ℕ) (n : ℕ) (h : x ≡ y) where
+  pub right-lengths : not (x && eqb (length a) n) ≡ false
+      → ((y && eqb (length a) n) ≡ true) × (y ≡ true) × (length a ≡ n)
+  right-lengths e =
+      let both = rule-kept (ap (λ (t : Bool). t && eqb (length a) n) h) e in
+      (both, and-left y (eqb (length a) n) both, eqb-true (length a) n (and-right y (eqb (length a) n) both))
+
+  pub wrong-lengths : not (x && eqb (length a) n) ≡ true → (y && eqb (length a) n) ≡ false
+  wrong-lengths e = rule-lost (ap (λ (t : Bool). t && eqb (length a) n) h) e
 
 -- ---- the reply
 pub uncalled : {lengths : Bool} (inputs : Bool) (decide : List Row → Outcome) (b a : List ℕ) {z : ℤ} → lengths ≡ false
@@ -156,44 +166,23 @@ abbrev pub callOf : Call → List ℕ → List ℕ → List ℕ → Reply
 callOf call b input a =
     shell (longOf call (length input) && eqb (length a) recordSize) (fieldsOf call input) (decideOf call input) b a
 
--- an input and an answer of the right lengths
-module _ {x y : Bool} (a : List ℕ) (h : x ≡ y) where
-  pub right-lengths : not (x && eqb (length a) recordSize) ≡ false
-      → ((y && eqb (length a) recordSize) ≡ true) × (y ≡ true) × (length a ≡ recordSize)
-  right-lengths e =
-      let one = eqb (length a) recordSize in
-      let both = rule-kept (ap (λ (t : Bool). t && one) h) e in
-      (both, and-left y one both, eqb-true (length a) recordSize (and-right y one both))
-
-  pub wrong-lengths : not (x && eqb (length a) recordSize) ≡ true → (y && eqb (length a) recordSize) ≡ false
-  wrong-lengths e = rule-lost (ap (λ (t : Bool). t && eqb (length a) recordSize) h) e
-
 -- ---- lookup
-unfoldable pub lookupLengths : ℕ → ℕ → Bool
-lookupLengths input answer = wholeRecords mostInputs input && eqb answer (2 * input)
-
-pub lookup-long : (n m : ℕ) → lookupLengths n m ≡ true → (wholeRecords mostInputs n ≡ true) × (m ≡ n * 2)
-unfolding lookupLengths
-lookup-long n m e =
-    let q = eqb-true m (2 * n) (and-right (wholeRecords mostInputs n) (eqb m (2 * n)) e) in
-    (and-left (wholeRecords mostInputs n) (eqb m (2 * n)) e, omega arith)
+pub lookup-long : {x : Bool} (input a : List ℕ) → x ≡ wholeRecords mostInputs (length input)
+    → not (x && eqb (length a) (2 * length input)) ≡ false
+    → ((wholeRecords mostInputs (length input) && eqb (length a) (2 * length input)) ≡ true)
+    × (wholeRecords mostInputs (length input) ≡ true) × (length a ≡ length input * 2) × (recordSize ≤ length a)
+lookup-long input a h e =
+    let long = right-lengths a (2 * length input) h e in
+    let whole = some _ _ (long .1) in
+    let twice = long .2 in
+    (long .0, long .1, omega arith, omega arith)
 
 -- a lookup leaves the book
 pub lookup-left : (b input a : List ℕ) {x : Bool} {s : Status} → Bytes b
-    → lookupLengths (length input) (length a) ≡ true → x ≡ every lookupInput (rows input) → s ≡ opening x b
-    → isDone s ≡ true → b ≡ bookLeft (lookup (rows b) (rows input)) b
-unfolding lookupCall lookupLengths replied bookLeft
+    → (wholeRecords mostInputs (length input) && eqb (length a) (2 * length input)) ≡ true
+    → x ≡ every lookupInput (rows input) → s ≡ opening x b → isDone s ≡ true
+    → b ≡ bookLeft (lookup (rows b) (rows input)) b
+unfolding lookupCall replied bookLeft
 lookup-left b input a y e i p d =
     sym (lookup-keeps b input a y)
     ∙ ap (λ (r : Reply). r .book) (rw d at (replies (λ rs. lookup rs (rows input)) b a e i p))
-
-pub twice-fits : (n : ℕ) {x : Bool} → x ≡ wholeRecords mostInputs n → x ≡ true → 2 * n < 2 ^ 64
-twice-fits n h e = let q = few-bytes mostInputs n (sym h ∙ e) in omega arith
-
-pub lookup-as-long : (n m : ℕ) {x : Bool} → x ≡ wholeRecords mostInputs n → x ≡ true → eqb m (2 * n) ≡ lookupLengths n m
-unfolding lookupLengths
-lookup-as-long n m h e = rw (← h, e)
-
-pub lookup-broken : (n m : ℕ) {x : Bool} → x ≡ wholeRecords mostInputs n → x ≡ false → false ≡ lookupLengths n m
-unfolding lookupLengths
-lookup-broken n m h e = rw (← h, e)

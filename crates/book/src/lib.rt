@@ -7,7 +7,7 @@ ghost use lib.ListN.{length};
 ghost use Rattle.model.specs.Call.{Promise, feedCall, isDone, lookupCall, orderCall, resultCall};
 ghost use Rattle.model.specs.Rows.{mostRecords, recordSize, rows, wholeRecords};
 ghost use Rattle.reply.specs.Left.{answerLeft, bookLeft};
-ghost use Rattle.book.specs.Shell.{Empty, Opened, callOf, decideOf, fieldsOf, longOf, lookupLengths, opening};
+ghost use Rattle.book.specs.Shell.{Empty, Opened, callOf, decideOf, fieldsOf, longOf, opening};
 use feed::feed;
 use inputs::all_feed;
 use inputs::all_lookup;
@@ -171,24 +171,14 @@ pub extern "C" fn book_feed(book: &mut [u8], input: &[u8], answer: &mut [u8]) ->
     called(Call::Feed, book, input, answer)
 }
 
-// A lookup only reads the book, and has a shell of its own.
-fn lookup_lengths(input: usize, answer: usize) -> bool
-    ensures { λ r. ⌜ r ≡ lookupLengths input answer ⌝ }
-{
-    if whole(input, Most::INPUTS) {
-        return answer == 2 * input;
-    }
-    false
-}
-
-// Trade-Lookup by trade number.
+// Trade-Lookup by trade number. It only reads the book, and so has a shell of its own.
 #[no_mangle]
 pub extern "C" fn book_lookup(book: &[u8], input: &[u8], answer: &mut [u8]) -> i32
     ensures { λ r.
         ⌜ Promise (lookupCall (now (book .entry)) (now (input .entry)) (now (answer .entry))) r (now (book .entry))
         (now (answer .exit)) ⌝ }
 {
-    if !lookup_lengths(input.len(), answer.len()) {
+    if !(whole(input.len(), Most::INPUTS) & (answer.len() == 2 * input.len())) {
         return code(Status::BadLength);
     }
     let none = records(book);

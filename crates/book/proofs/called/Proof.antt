@@ -12,15 +12,15 @@ use Rattle.book.proofs.called.Tie as tie
 returns : tie.Need-returns
 returns c =
     let long = c .before .before in
-    let start = long .before .before .before .before in
-    let wrong = wrong-lengths (start .args .answer .now) (long .long .ensures) (c .before .if1 .taken) in
+    let args = long .before .before .before .before .args in
+    let wrong = wrong-lengths (args .answer .now) 64 (long .long .ensures) (c .before .if1 .taken) in
     uncalled _ _ _ _ wrong (number-back (c .code .result) BadLength (c .code .ensures))
 
 fields-requires : tie.Need-fields-requires
 fields-requires c κs =
     let test = c .before .before .before in
-    let start = test .before .before .before .before .before in
-    right-lengths (start .args .answer .now) (test .before .long .ensures) (test .if1 .left) .1
+    let args = test .before .before .before .before .before .args in
+    right-lengths (args .answer .now) 64 (test .before .long .ensures) (test .if1 .left) .1
 
 opened-requires : tie.Need-opened-requires
 opened-requires c κs = empty _ _ (c .before .before .before .before .records .ensures)
@@ -28,8 +28,8 @@ opened-requires c κs = empty _ _ (c .before .before .before .before .records .e
 finish-requires : tie.Need-finish-requires
 finish-requires c κs =
     let test = c .before .before .before .before .before .before .before .before .before .before in
-    let start = test .before .before .before .before .before in
-    let long = right-lengths (start .args .answer .now) (test .before .long .ensures) (test .if1 .left) .2 in
+    let args = test .before .before .before .before .before .args in
+    let long = right-lengths (args .answer .now) 64 (test .before .long .ensures) (test .if1 .left) .2 in
     omega arith
 
 returns-2 : tie.Need-returns-2
@@ -38,11 +38,11 @@ returns-2 c =
     let test = finish .before .before in
     let opened = test .before .before in
     let fields = opened .before .before .before in
-    let lengths = fields .before .before .before .before in
-    let start = lengths .before .before .before .before .before in
-    let long = right-lengths (start .args .answer .now) (lengths .before .long .ensures) (lengths .if1 .left) .0 in
+    let sized = fields .before .before .before .before in
+    let args = sized .before .before .before .before .before .args in
+    let long = right-lengths (args .answer .now) 64 (sized .before .long .ensures) (sized .if1 .left) .0 in
     let end = finish .finish in
-    refuses _ (start .args .book .now) (start .args .answer .now) long (fields .fields .ensures)
+    refuses _ (args .book .now) (args .answer .now) long (fields .fields .ensures)
     (opened .opened .ensures .0)
     (rule-lost (test .before .done .ensures) (test .if2 .taken))
     (number-back (end .result) (opened .opened .result) (end .ensures .0)) (end .ensures .1)
@@ -52,9 +52,9 @@ decide-requires c κs =
     let test = c .before .before .before .before in
     let opened = test .before .before in
     let fields = opened .before .before .before in
-    let lengths = fields .before .before .before .before in
-    let start = lengths .before .before .before .before .before in
-    let long = right-lengths (start .args .answer .now) (lengths .before .long .ensures) (lengths .if1 .left) in
+    let sized = fields .before .before .before .before in
+    let args = sized .before .before .before .before .before .args in
+    let long = right-lengths (args .answer .now) 64 (sized .before .long .ensures) (sized .if1 .left) in
     let found = opened .opened .ensures .1 (rule-kept (test .before .done .ensures) (test .if2 .left)) in
     (rw (fields .fields .ensures) at found, (long .1, long .2))
 
@@ -62,9 +62,9 @@ finish-requires-2 : tie.Need-finish-requires-2
 finish-requires-2 c κs =
     let decide = c .before .before .before .before .before in
     let fields = decide .before .before .before .before .before .before .before .before .before .before in
-    let lengths = fields .before .before .before .before in
-    let start = lengths .before .before .before .before .before in
-    let long = right-lengths (start .args .answer .now) (lengths .before .long .ensures) (lengths .if1 .left) .2 in
+    let sized = fields .before .before .before .before in
+    let args = sized .before .before .before .before .before .args in
+    let long = right-lengths (args .answer .now) 64 (sized .before .long .ensures) (sized .if1 .left) .2 in
     let same = decide .decide .kept .1 .1 .1 .1 .1 .0 in
     omega arith
 
@@ -75,12 +75,12 @@ returns-3 c =
     let test = decide .before .before .before .before .before in
     let opened = test .before .before in
     let fields = opened .before .before .before in
-    let lengths = fields .before .before .before .before in
-    let start = lengths .before .before .before .before .before in
-    let long = right-lengths (start .args .answer .now) (lengths .before .long .ensures) (lengths .if1 .left) .0 in
+    let sized = fields .before .before .before .before in
+    let args = sized .before .before .before .before .before .args in
+    let long = right-lengths (args .answer .now) 64 (sized .before .long .ensures) (sized .if1 .left) .0 in
     let on = decide .decide in
     let end = finish .finish2 in
-    decides _ (start .args .book .now) (start .args .answer .now) long (fields .fields .ensures)
+    decides _ (args .book .now) (args .answer .now) long (fields .fields .ensures)
     (opened .opened .ensures .0)
     (rule-kept (test .before .done .ensures) (test .if2 .left))
     (on .ensures .0) (on .ensures .1 .0) (on .ensures .1 .1) (on .kept .1 .1 .1 .1 .1 .0)
