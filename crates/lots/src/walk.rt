@@ -87,11 +87,13 @@ pub struct Walk {
 }
 
 impl Walk {
-    pub fn start(shares: u32) -> Walk
-        ensures { λ r. ⌜ r ≡ made (start shares) ⌝ }
+    // A count below zero needs nothing.
+    pub fn start(shares: Shares) -> Walk
+        requires { ⌜ up (shares .0) ≤ sharesMost ⌝ }
+        ensures { λ r. ⌜ r ≡ made (start (up (shares .0))) ⌝ }
     {
         Walk {
-            need: units::shares(shares as u64),
+            need: units::shares(units::in_shares(shares)),
             bought: Cents(0),
             sold: Cents(0),
         }
