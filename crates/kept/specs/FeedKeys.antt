@@ -1,7 +1,7 @@
 -- A feed that is done leaves S2 and S7. Both hold after each step: a trade that is pending has no history row of a
 -- higher status, so the one that is added with its submission is the first with its key. Assumes nothing.
 use mathlib.Core.Path.{_≡_, refl, sym, ap, subst, _∙_}
-use mathlib.Core.Bool.{Bool, true, false, _&&_, false≢true}
+use mathlib.Core.Bool.{Bool, true, false}
 use mathlib.Core.List.{List, List·Memᴰ}
 use mathlib.Core.Logic.{_⊎_, inl, inr, ⊎-elim}
 use Prim.Native.Nat.{ℕ, _+_, _≤_}
@@ -25,13 +25,13 @@ use Rattle.model.specs.Sound.{higher}
 use Rattle.model.specs.SoundMeans.{S2, S7, SoundBook, There}
 use Rattle.shelf.specs.Put.{row-itself, same-rows}
 use Rattle.tables.specs.Found.{own-number}
-use Rattle.tables.specs.Names.{by-status, ofId}
+use Rattle.tables.specs.Names.{ofId}
 use Rattle.feed.specs.Steps.{key-of}
 use Rattle.result.specs.Apart.{own-key}
 use Rattle.kept.specs.FeedCalm.{sent-key, sweep, sweep-either, swept-fewer, swept-same, traded-key}
 use Rattle.kept.specs.FeedLaws.{all-put, put-has}
 use Rattle.kept.specs.FeedSteps.{Keeps, Leads, Sends, Trades, afterSend, afterTrade, historyFor, sent}
-use Rattle.kept.specs.ResultFresh.{one-key}
+use Rattle.kept.specs.ResultFresh.{not-yet, one-key}
 use Rattle.laws.specs.Puts.{count-less}
 use Rattle.laws.specs.Puts.{is-counted, put-total}
 
@@ -96,19 +96,7 @@ module _ (l : List Row) (e t : Row) (q : Sends l e t) (u : Keys l) (s7 : S7 l) w
   both-not x = not-higher x (sent e t) kindTrade (q .kind) refl ∙ sym (not-higher x t kindTrade (q .kind) refl)
 
   fresh : count (hasKey (aHistory (t .id) submitted)) l ≡ 0
-  fresh =
-      let none = s7 t (q .here) (q .kind) .1 in
-      let less =
-      count-less (hasKey (aHistory (t .id) submitted)) (higher t) l
-      (λ x i y.
-      let own = sym (by-status (t .id) submitted x) ∙ y in
-      let a = and-left (ofId kindTradeHistory (t .id) x) (eqb (x .status) submitted) own in
-      let b = and-right (ofId kindTradeHistory (t .id) x) (eqb (x .status) submitted) own in
-      let c = eqb-true (x .status) submitted b in
-      and-both (ofId kindTradeHistory (t .id) x) (ltb (t .status) (x .status)) a
-      (ap (λ (n : ℕ). ltb n (x .status)) (q .waits) ∙ ap (ltb 1) c))
-      in
-      omega arith
+  fresh = not-yet l t submitted (ap (λ (n : ℕ). ltb n submitted) (q .waits)) (s7 t (q .here) (q .kind) .1)
 
   send-keys : Keys (afterSend l e t)
   unfolding hasKey keyOf

@@ -1,9 +1,9 @@
 -- No row of a sound book has the key of one that a result adds, and no two of those have one key. Assumes nothing.
 use mathlib.Core.Path.{_≡_, refl, sym, ap, _∙_}
-use mathlib.Core.Bool.{Bool, true, false, not, _&&_, false≢true}
-use mathlib.Core.List.{List, [], _∷_, _++_, List·Memᴰ}
+use mathlib.Core.Bool.{Bool, true, false}
+use mathlib.Core.List.{List, List·Memᴰ}
 use mathlib.Core.Logic.{⊎-elim}
-use Prim.Native.Nat.{ℕ, _+_, _≤_}
+use Prim.Native.Nat.{ℕ, _≤_}
 use native.Mathlib.Omega.{arith}
 use lib.Dec.{eqb, leb, ltb}
 use borrow.Author.Tests.{eqb-true, leb-false}
@@ -25,7 +25,7 @@ use Rattle.model.specs.SoundMeans.{S2, SoundBook, means-sound}
 use Rattle.shelf.specs.Put.{found-none}
 use Rattle.tables.specs.Names.{by-id, by-status, ofId}
 use Rattle.result.specs.Apart.{found-kind, key-kind}
-use Rattle.result.specs.Own.{Read, Sums, added}
+use Rattle.result.specs.Own.{Read, Sums}
 use Rattle.kept.specs.ResultEach.{lotOf}
 use Rattle.laws.specs.Puts.{count-less, count-no, the-one}
 
@@ -56,6 +56,20 @@ module _ (rs : List Row) (s2 : S2 rs) where
 pub none-found : (k : Key) (rs : List Row) → count (hasKey k) rs ≡ 0 → found k rs ≡ nothing
 unfolding there
 none-found k rs e = found-none k rs (ap (leb 1) e)
+
+-- a trade without a history of a higher status has none of this one
+pub not-yet : (l : List Row) (t : Row) (s : ℕ) → ltb (t .status) s ≡ true → count (higher t) l ≡ 0
+    → count (hasKey (aHistory (t .id) s)) l ≡ 0
+not-yet l t s above none =
+    let less =
+    count-less (hasKey (aHistory (t .id) s)) (higher t) l
+    (λ x m e.
+    let own = sym (by-status (t .id) s x) ∙ e in
+    let i = and-left (ofId kindTradeHistory (t .id) x) (eqb (x .status) s) own in
+    let c = eqb-true (x .status) s (and-right (ofId kindTradeHistory (t .id) x) (eqb (x .status) s) own) in
+    and-both (ofId kindTradeHistory (t .id) x) (ltb (t .status) (x .status)) i (ap (ltb (t .status)) c ∙ above))
+    in
+    omega arith
 
 not-so : (b : Bool) → (b ≡ true → ⊥) → b ≡ false
 not-so true h = absurd (h refl)
@@ -97,18 +111,7 @@ module _ {rs : List Row} {t summary account broker : Row} {cs : List Closing}
 
   pub no-history : count (hasKey (aHistory (t .id) completed)) rs ≡ 0
   no-history =
-      let none = book .s7 t (r .t-held) (r .t-kind) .1 in
-      let less =
-      count-less (hasKey (aHistory (t .id) completed)) (higher t) rs
-      (λ x m e.
-      let own = sym (by-status (t .id) completed x) ∙ e in
-      let i = and-left (ofId kindTradeHistory (t .id) x) (eqb (x .status) completed) own in
-      let c = and-right (ofId kindTradeHistory (t .id) x) (eqb (x .status) completed) own in
-      let s = eqb-true (x .status) completed c in
-      and-both (ofId kindTradeHistory (t .id) x) (ltb (t .status) (x .status)) i
-      (ap (λ (a : ℕ). ltb a (x .status)) (r .t-status) ∙ ap (ltb submitted) s))
-      in
-      omega arith
+      not-yet rs t completed (ap (λ (a : ℕ). ltb a completed) (r .t-status)) (book .s7 t (r .t-held) (r .t-kind) .1)
 
   -- a lot history that this trade makes
   pub no-lot-history : (h : Row) → h .kind ≡ kindLotHistory → h .m2 ≡ t .id → count (hasKey (keyOf h)) rs ≡ 0

@@ -1,18 +1,18 @@
 -- S8 after a result that is accepted: a lot names a completed trade of its account and symbol, lots of one account and
 -- symbol have one sign, and a summary exists exactly where lots do and equals their sum. Assumes nothing.
-use mathlib.Core.Path.{_≡_, refl, sym, ap, ap₂, _∙_}
+use mathlib.Core.Path.{_≡_, refl, sym, ap, _∙_}
 use mathlib.Core.Bool.{Bool, true, false, cond, not, _&&_, false≢true}
 use mathlib.Core.List.{List, List·Memᴰ}
 use mathlib.Core.Logic.{⊎-elim}
 use Prim.Native.Nat.{ℕ, _+_, _≤_}
 use native.Mathlib.Omega.{arith}
 use lib.Dec.{eqb, leb}
-use lib.IntN.{ℤ, natAbs, _+ℤ_}
+use lib.IntN.{ℤ, natAbs}
 use borrow.Author.Tests.{eq-eqb, eqb-true, le-leb, leb-false, leb-true}
 use mir.Syntax.{w64}
 use mir.Val.{toZ}
 use Rattle.laws.specs.Keep.{count-has, count-one}
-use Rattle.laws.specs.Search.{bit, count, the}
+use Rattle.laws.specs.Search.{bit, count}
 use Rattle.laws.specs.Tests.{and-both, and-left, and-right}
 use Rattle.record.specs.Codes.{kindFree, kindLot}
 use Rattle.record.specs.Codes.{kindSummary}
@@ -23,7 +23,7 @@ use Rattle.rules.specs.Rules.{as-kind}
 use Rattle.model.specs.Lots.{Closing, size}
 use Rattle.model.specs.Money.{buys}
 use Rattle.model.specs.Names.{aSummary}
-use Rattle.model.specs.Rows.{found, hasKey, is, nothing, sameRow, there}
+use Rattle.model.specs.Rows.{hasKey, is, sameRow, there}
 use Rattle.model.specs.Sound.{lotOf, otherSign}
 use Rattle.model.specs.SoundMeans.{LotRight, S1, S8, SummaryRight, There, means-sound}
 use Rattle.shelf.specs.Put.{row-itself, same-rows}
@@ -226,12 +226,17 @@ module _ {rs : List Row} {t summary account broker : Row} {cs : List Closing}
             own-right s o (q ∙ z .0 .1) (z .1)
         again f g false e h = absurd (omega arith)
 
+        came : is kindFree summary ≡ false → (b : Bool) → gone summed ≡ b
+            → 1 ≤ cond b 0 (bit (sameRow s (summaryAfter t summary))) → SummaryRight now s
+        came f true g h = absurd (omega arith)
+        came f false g h = again f g (sameRow s (summaryAfter t summary)) refl h
+
         go : (a b : Bool) → is kindFree summary ≡ a → gone summed ≡ b → SummaryRight now s
         go true b f g =
             let c = once in
             let h = count-has own s rs w o in
             absurd (false≢true (sym (summary-gone r n inside v f) ∙ some-there (aSummary (t .party) (t .symbol)) rs h))
-        go false true f g =
+        go false b f g =
             let c = once in
             let l = row-law in
             let fewer = row-fewer in
@@ -239,22 +244,10 @@ module _ {rs : List Row} {t summary account broker : Row} {cs : List Closing}
             let z1 : cond (is kindFree summary) 0 (bit (sameRow s summary)) ≡ 1 = rw (f, twin f) in
             let z2 : cond (is kindFree summary) (bit (sameRow s (summaryOpened t summary))) 0 ≡ 0 = rw f in
             let z3 : cond (is kindFree summary) 0 (cond (gone summed) 0 (bit (sameRow s (summaryAfter t summary))))
-            ≡ 0 =
+            ≡ cond b 0 (bit (sameRow s (summaryAfter t summary))) =
             rw (f, g)
             in
-            absurd (omega arith)
-        go false false f g =
-            let c = once in
-            let l = row-law in
-            let fewer = row-fewer in
-            let here = is-counted sameRow same-rows row-itself s now m in
-            let z1 : cond (is kindFree summary) 0 (bit (sameRow s summary)) ≡ 1 = rw (f, twin f) in
-            let z2 : cond (is kindFree summary) (bit (sameRow s (summaryOpened t summary))) 0 ≡ 0 = rw f in
-            let z3 : cond (is kindFree summary) 0 (cond (gone summed) 0 (bit (sameRow s (summaryAfter t summary))))
-            ≡ bit (sameRow s (summaryAfter t summary)) =
-            rw (f, g)
-            in
-            again f g (sameRow s (summaryAfter t summary)) refl (omega arith)
+            came f b g (omega arith)
 
   summary-right : (s : Row) → List·Memᴰ s now → s .kind ≡ kindSummary → SummaryRight now s
   summary-right s m k =
