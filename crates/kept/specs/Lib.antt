@@ -1,3 +1,4 @@
+pub mod Cases
 pub mod Posted
 pub mod Bytes
 pub mod FeedSteps
@@ -21,13 +22,11 @@ pub mod ResultSettled
 pub mod ResultLeft
 pub mod ResultLotsTotal
 pub mod ResultLotsLaw
-pub mod ResultLotsNews
 pub mod ResultLotsSides
 pub mod ResultLotsSum
 pub mod ResultLotsSigns
 pub mod ResultLotsTrade
 pub mod ResultLotsSummary
-pub mod ResultLotsHeld
 pub mod ResultLots
 pub mod ResultFitsRanges
 pub mod ResultFitsRows

@@ -1,9 +1,9 @@
 -- The rows that a result leaves: those of kinds that it does not write are as they were, and every key is there still
 -- but those of lots and summaries. Assumes nothing.
 use mathlib.Core.Path.{_≡_, refl, sym, ap, _∙_}
-use mathlib.Core.Bool.{Bool, true, false, false≢true}
-use mathlib.Core.List.{List, [], _∷_, List·Memᴰ, List·Memᴰ·head, List·Memᴰ·tail}
-use Prim.Native.Nat.{ℕ, _+_, _≤_}
+use mathlib.Core.Bool.{Bool, true, false}
+use mathlib.Core.List.{List, [], _∷_, List·Memᴰ, List·Memᴰ·head, List·Memᴰ·tail, Memᴰ·append-left, Memᴰ·append-right}
+use Prim.Native.Nat.{ℕ, _≤_}
 use native.Mathlib.Omega.{arith}
 use lib.Dec.{eqb}
 use lib.ListN.{length}
@@ -20,11 +20,13 @@ use Rattle.model.specs.Lots.{Closing}
 use Rattle.model.specs.Rows.{found, hasKey, is, nothing, sameRow}
 use Rattle.shelf.specs.Put.{row-itself, same-rows}
 use Rattle.result.specs.Apart.{broker-key, holding-key, key-kind, trade-key}
-use Rattle.result.specs.Own.{Read, Sums, added, brokerWrite, tradeWrite}
+use Rattle.result.specs.Own.{Read, Sums, added, brokerWrite, tradeWrite, writes}
+use Rattle.kept.specs.Cases.{no}
+use Rattle.kept.specs.Posted.{adds}
 use Rattle.kept.specs.ResultBase.{all, all-inside}
 use Rattle.kept.specs.ResultEach.{Aside, by-kind}
-use Rattle.laws.specs.Puts.{Quiet, More, each-row, has-come, no-fewer, no-more, the-puts}
-use Rattle.laws.specs.Puts.{Inside, news, olds, puts-total}
+use Rattle.laws.specs.Puts.{Inside, More, Quiet, each-row, has-come, mem-map, news, no-fewer, no-more, olds}
+use Rattle.laws.specs.Puts.{puts-total, the-puts}
 
 -- a kind of rows that a result does not write
 abbrev pub Still : ℕ → Type 0
@@ -58,8 +60,17 @@ module _ {rs : List Row} {t summary account broker : Row} {cs : List Closing}
   pub after-each : (P : Row → Type 0) → All P rs → All (λ (w : Row × Row). P (w .1)) (all r n) → All P after
   after-each = each-row sameRow same-rows row-itself (all r n) rs inside
 
-  pub after-comes : (w : Row × Row) → List·Memᴰ w (all r n) → List·Memᴰ (w .1) after
+  after-comes : (w : Row × Row) → List·Memᴰ w (all r n) → List·Memᴰ (w .1) after
   after-comes = has-come sameRow same-rows row-itself (all r n) rs inside
+
+  pub added-comes : (h : Row) → List·Memᴰ h (added t summary cs n) → List·Memᴰ h after
+  added-comes h m =
+      after-comes (nothing, h)
+      (Memᴰ·append-left (writes t summary account broker cs n)
+      (mem-map (λ (x : Row). (nothing, x)) h (added t summary cs n) m))
+
+  pub turned-comes : (w : Row × Row) → List·Memᴰ w (writes t summary account broker cs n) → List·Memᴰ (w .1) after
+  turned-comes w m = after-comes w (Memᴰ·append-right (adds (added t summary cs n)) m)
 
   pub after-more : (p : Row → Bool) → All (More p) (all r n) → count p rs ≤ count p after
   after-more = no-fewer sameRow same-rows row-itself (all r n) rs inside
@@ -72,8 +83,8 @@ module _ {rs : List Row} {t summary account broker : Row} {cs : List Closing}
   module _ (p : Row → Bool) (quiet : All (Quiet p) (all r n)) where
     pub quiet-count : count p after ≡ count p rs
     quiet-count =
-        let a = after-more p (λ w m e. absurd (false≢true (sym (quiet w m .0) ∙ e))) in
-        let b = after-fewer p (λ w m e. absurd (false≢true (sym (quiet w m .1) ∙ e))) in
+        let a = after-more p (λ w m e. no (quiet w m .0) e) in
+        let b = after-fewer p (λ w m e. no (quiet w m .1) e) in
         omega arith
 
     pub quiet-the : (d : Row) → the p d after ≡ the p d rs
@@ -82,7 +93,7 @@ module _ {rs : List Row} {t summary account broker : Row} {cs : List Closing}
     pub quiet-was : (x : Row) → List·Memᴰ x after → p x ≡ true → List·Memᴰ x rs
     quiet-was =
         after-each (λ (x : Row). p x ≡ true → List·Memᴰ x rs) (λ x m e. m)
-        (λ w m e. absurd (false≢true (sym (quiet w m .1) ∙ e)))
+        (λ w m e. no (quiet w m .1) e)
 
   pub quiet-found : (k : Key) → All (Quiet (hasKey k)) (all r n) → found k after ≡ found k rs
   unfolding found
@@ -90,9 +101,6 @@ module _ {rs : List Row} {t summary account broker : Row} {cs : List Closing}
 
   -- ---- kinds that are not written
   module _ (k : ℕ) (s : Still k) where
-    no : {X : Type 0} {b : Bool} → b ≡ false → b ≡ true → X
-    no e h = absurd (false≢true (sym e ∙ h))
-
     pub still : (p : Row → Bool) → ((x : Row) → p x ≡ true → x .kind ≡ k) → All (Quiet p) (all r n)
     still p only =
         by-kind r n (Quiet p) k p only (s .0) (λ w a b. (a, b)) (no (s .1 .0)) (no (s .1 .1)) (no (s .1 .2))
@@ -124,7 +132,7 @@ module _ {rs : List Row} {t summary account broker : Row} {cs : List Closing}
   pub key-stays : (k : Key) → Aside (k .kind) → count (hasKey k) rs ≤ count (hasKey k) after
   key-stays k a =
       after-more (hasKey k)
-      (by-kind r n (More (hasKey k)) (k .kind) (hasKey k) (key-kind k) a (λ w e f h. absurd (false≢true (sym e ∙ h)))
+      (by-kind r n (More (hasKey k)) (k .kind) (hasKey k) (key-kind k) a (λ w e f h. no e h)
       (λ e h. absurd (free h)) (λ e h. absurd (free h)) (λ e z h. absurd (free h))
       (λ e. alike account _ (holding-key account (n .balance)))
       (λ e. alike t (tradeWrite t n .1) (trade-key t (n .price) (n .commission) (n .tax) (n .time) (r .t-kind)))

@@ -5,11 +5,13 @@ use mathlib.Core.List.{List, [], _∷_, _++_}
 use Prim.Native.Nat.{ℕ}
 use lib.Dec.{eqb}
 use lib.IntN.{pos}
-use borrow.Author.Tests.{eqb-false, not-false}
+use borrow.Author.Tests.{eqb-false, not-false, not-true}
 use mir.Syntax.{w64}
 use mir.Val.{toZ}
 use Rattle.laws.specs.All.{All, all-append, all-cond, all-keep, all-map, all-more, all-none, all-one}
+use Rattle.laws.specs.Keep.{keep-from}
 use Rattle.laws.specs.Search.{keep}
+use Rattle.laws.specs.Tests.{and-left, and-right}
 use Rattle.record.specs.Codes.{kindAccount, kindBroker, kindCash, kindFree, kindLot, kindLotHistory, kindSettlement}
 use Rattle.record.specs.Codes.{kindSummary, kindTrade, kindTradeHistory}
 use Rattle.record.specs.declared.row.Row.{Row}
@@ -32,11 +34,11 @@ closingOf t c = lotHistory (c .lot .id) (t .id) (toZ w64 (c .lot .m1)) (leftOf (
 abbrev pub openingOf : Row → Sums → Row
 openingOf t n = lotHistory (t .id) (t .id) (pos 0) (signed (t .form) (n .left))
 
-abbrev pub lotOf : Row → Sums → Row
-lotOf t n = newLot t (n .price) (signed (t .form) (n .left)) (n .time)
+abbrev pub lotOpened : Row → Sums → Row
+lotOpened t n = newLot t (n .price) (signed (t .form) (n .left)) (n .time)
 
-abbrev pub summaryOf : Row → Row → Row
-summaryOf t summary = newSummary t (summedShares t summary)
+abbrev pub summaryOpened : Row → Row → Row
+summaryOpened t summary = newSummary t (summedShares t summary)
 
 abbrev pub historyOf : Row → Sums → Row
 historyOf t n = tradeHistory t (n .time)
@@ -47,26 +49,30 @@ settlementOf t n = settlementRow t (n .amount) (n .time)
 abbrev pub cashOf : Row → Sums → Row
 cashOf t n = cashRow t (n .amount) (n .time)
 
+-- ---- and those that are changed
+abbrev pub lotAfter : Row → Closing → Row
+lotAfter t c = holding (c .lot) (leftOf (t .form) c)
+
+abbrev pub summaryAfter : Row → Row → Row
+summaryAfter t summary = holding summary (summedShares t summary)
+
 -- ---- what is to be shown of each
 pub record Each (t summary account broker : Row) (cs : List Closing) (n : Sums) (Q : Row × Row → Type 0) : Type 0 where
   pub closed : All (λ (c : Closing). Q (nothing, closingOf t c)) cs
-  pub opened : Q (nothing, openingOf t n)
-  pub lot : Q (nothing, lotOf t n)
-  pub begun : is kindFree summary ≡ true → Q (nothing, summaryOf t summary)
+  pub opened : eqb (n .left) 0 ≡ false → Q (nothing, openingOf t n)
+  pub lot : eqb (n .left) 0 ≡ false → Q (nothing, lotOpened t n)
+  pub begun : is kindFree summary ≡ true → Q (nothing, summaryOpened t summary)
   pub history : Q (nothing, historyOf t n)
   pub settled : Q (nothing, settlementOf t n)
   pub paid : cash (t .flags) ≡ true → Q (nothing, cashOf t n)
-  pub less : All (λ (c : Closing). Q (c .lot, holding (c .lot) (leftOf (t .form) c))) cs
-  pub summed : is kindFree summary ≡ false → Q (summary, holding summary (summedShares t summary))
+  pub less : All (λ (c : Closing). reduced c ≡ true → Q (c .lot, lotAfter t c)) cs
+  pub summed : is kindFree summary ≡ false → gone (summedShares t summary) ≡ false
+      → Q (summary, summaryAfter t summary)
   pub balanced : Q (account, holding account (n .balance))
   pub trade : Q (tradeWrite t n)
   pub gained : Q (brokerWrite broker n)
   pub freed : All (λ (c : Closing). Q (c .lot, nothing)) cs
   pub emptied : is kindFree summary ≡ false → Q (summary, nothing)
-
-held : (a b : Bool) → (not a && b) ≡ true → a ≡ false
-held true b h = sym h
-held false b h = refl
 
 -- a kind of rows that are not free, nor lots, summaries or lot histories
 abbrev pub Aside : ℕ → Type 0
@@ -84,7 +90,7 @@ module _ {rs : List Row} {t summary account broker : Row} {cs : List Closing}
         (all-append P (closingRows t cs) (openingRows t (n .price) (n .left) (n .time))
         (all-map (closingOf t) P cs (e .closed))
         (all-cond P (eqb (n .left) 0) [] _ (λ z. all-none P)
-        (λ z. all-more P _ _ (e .opened) (all-one P _ (e .lot)))))
+        (λ z. all-more P _ _ (e .opened z) (all-one P _ (e .lot z)))))
         (all-cond P (not (is kindFree summary)) [] _ (λ z. all-none P)
         (λ z. all-one P _ (e .begun (not-false (is kindFree summary) z)))))
         (all-more P _ _ (e .history)
@@ -101,7 +107,7 @@ module _ {rs : List Row} {t summary account broker : Row} {cs : List Closing}
         (all-map (λ (c : Closing). c .lot) P (keep (λ (c : Closing). not (reduced c)) cs)
         (all-keep (λ (c : Closing). P (c .lot)) (λ (c : Closing). not (reduced c)) cs (e .freed)))
         (all-cond P (not (is kindFree summary) && gone (summedShares t summary)) _ []
-        (λ z. all-one P _ (e .emptied (held (is kindFree summary) (gone (summedShares t summary)) z)))
+        (λ z. all-one P _ (e .emptied (not-true (is kindFree summary) (and-left _ (gone (summedShares t summary)) z))))
         (λ z. all-none P)))
       where
         P : Row → Type 0
@@ -123,10 +129,11 @@ module _ {rs : List Row} {t summary account broker : Row} {cs : List Closing}
         (all-append Q (w1 ++ w2 ++ w3) w4
         (all-append Q (w1 ++ w2) w3
         (all-append Q w1 w2
-        (all-map (λ (c : Closing). (c .lot, holding (c .lot) (leftOf (t .form) c))) Q (keep reduced cs)
-        (all-keep (λ (c : Closing). Q (c .lot, holding (c .lot) (leftOf (t .form) c))) reduced cs (e .less)))
+        (all-map (λ (c : Closing). (c .lot, lotAfter t c)) Q (keep reduced cs)
+        (λ c m. let k = keep-from reduced c cs m in e .less c (k .0) (k .1)))
         (all-cond Q (not (is kindFree summary) && not (gone (summedShares t summary))) _ []
-        (λ z. all-one Q _ (e .summed (held (is kindFree summary) (not (gone (summedShares t summary))) z)))
+        (λ z. let live = not (is kindFree summary) in let some = not (gone (summedShares t summary)) in
+        all-one Q _ (e .summed (not-true _ (and-left live some z)) (not-true _ (and-right live some z))))
         (λ z. all-none Q)))
         (all-cond Q (cash (t .flags)) _ [] (λ z. all-one Q _ (e .balanced)) (λ z. all-none Q)))
         (all-one Q _ (e .trade)))
@@ -170,21 +177,19 @@ module _ {rs : List Row} {t summary account broker : Row} {cs : List Closing}
     by-kind f1 f2 f3 f4 f5 f6 =
         each-write (record {
           closed = λ c m. quiet (nothing, closingOf t c) off-free (off kindLotHistory (a .3) (closingOf t c) refl);
-          opened = quiet (nothing, openingOf t n) off-free (off kindLotHistory (a .3) (openingOf t n) refl);
-          lot = quiet (nothing, lotOf t n) off-free (off kindLot (a .1) (lotOf t n) refl);
+          opened = λ z. quiet (nothing, openingOf t n) off-free (off kindLotHistory (a .3) (openingOf t n) refl);
+          lot = λ z. quiet (nothing, lotOpened t n) off-free (off kindLot (a .1) (lotOpened t n) refl);
           begun = λ z.
-              quiet (nothing, summaryOf t summary) off-free (off kindSummary (a .2) (summaryOf t summary) refl);
+              quiet (nothing, summaryOpened t summary) off-free (off kindSummary (a .2) (summaryOpened t summary) refl);
           history = fresh kindTradeHistory (historyOf t n) refl f1;
           settled = fresh kindSettlement (settlementOf t n) refl f2;
           paid = λ z. fresh kindCash (cashOf t n) refl (λ e. f3 e z);
-          less = λ c m.
-              let x = holding (c .lot) (leftOf (t .form) c) in
-              quiet (c .lot, x) (off kindLot (a .1) (c .lot) (r .c-held c m .1))
-              (off kindLot (a .1) x (r .c-held c m .1));
-          summed = λ z.
-              let x = holding summary (summedShares t summary) in
-              quiet (summary, x) (off kindSummary (a .2) summary (r .s-held z .1))
-              (off kindSummary (a .2) x (r .s-held z .1));
+          less = λ c m z.
+              quiet (c .lot, lotAfter t c) (off kindLot (a .1) (c .lot) (r .c-held c m .1))
+              (off kindLot (a .1) (lotAfter t c) (r .c-held c m .1));
+          summed = λ z g.
+              quiet (summary, summaryAfter t summary) (off kindSummary (a .2) summary (r .s-held z .1))
+              (off kindSummary (a .2) (summaryAfter t summary) (r .s-held z .1));
           balanced = turned kindAccount account (holding account (n .balance)) (r .a-kind) (r .a-kind) f4;
           trade = turned kindTrade t (tradeWrite t n .1) (r .t-kind) (r .t-kind) f5;
           gained = turned kindBroker broker (brokerWrite broker n .1) (r .b-kind) (r .b-kind) f6;

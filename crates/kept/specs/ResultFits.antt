@@ -2,15 +2,15 @@
 use mathlib.Core.Path.{_≡_, sym, _∙_}
 use mathlib.Core.Bool.{true, false}
 use mathlib.Core.List.{List, [], List·Memᴰ}
-use mathlib.Core.Logic.{⊎-elim}
-use Prim.Native.Nat.{ℕ, _+_, _-_, _≤_}
+use Prim.Native.Nat.{ℕ, _-_, _≤_}
 use native.Mathlib.Omega.{arith}
 use lib.Dec.{eqb}
-use lib.IntN.{ℤ, pos, natAbs, _+ℤ_}
-use lib.ListN.{getD}
+use lib.IntN.{pos, natAbs}
+use lib.ListN.{getD, length}
 use borrow.Author.Tests.{eqb-false}
 use mir.Syntax.{w64}
 use mir.Val.{toZ}
+use Rattle.laws.specs.Search.{count}
 use Rattle.record.specs.Codes.{kindAccount, kindBroker, kindFree, kindLot, kindSummary, kindTrade}
 use Rattle.record.specs.declared.row.Row.{Row}
 use Rattle.rules.specs.Meaning.{Fits, Lot, Trade, means-account, means-broker, means-fits, means-lot, means-summary}
@@ -19,23 +19,20 @@ use Rattle.rules.specs.Rules.{as-kind, rules}
 use Rattle.model.specs.Lots.{Closing, size}
 use Rattle.model.specs.Money.{buys}
 use Rattle.model.specs.Result.{leftOf, signed}
-use Rattle.model.specs.Rows.{is, sameRow}
+use Rattle.model.specs.Rows.{is, nothing, sameRow}
 use Rattle.model.specs.SoundMeans.{S1, means-sound}
-use Rattle.shelf.specs.Put.{row-itself, same-rows}
-use Rattle.result.specs.Own.{Read, Sums, brokerWrite, tradeWrite}
-use Rattle.result.specs.Rows.{gone, holding, lotHistory, reduced, summedShares}
+use Rattle.result.specs.Own.{Read, Sums, added, brokerWrite, tradeWrite}
+use Rattle.result.specs.Rows.{gone, holding, reduced, summedShares}
 use Rattle.result.specs.Summary.{sum-size}
+use Rattle.kept.specs.ResultAfter.{after, after-each}
 use Rattle.kept.specs.ResultFitsRanges.{new-put}
 use Rattle.kept.specs.ResultFitsRows.{Small, account-left-fits, broker-left-fits, cash-fits, history-fits}
 use Rattle.kept.specs.ResultFitsRows.{lot-fits, lot-history-fits, lot-left-fits, settlement-fits, summary-fits}
 use Rattle.kept.specs.ResultFitsRows.{summary-left-fits, trade-fits}
-use Rattle.kept.specs.ResultLotsHeld.{fresh-some, not-gone}
-use Rattle.kept.specs.ResultLotsLaw.{after}
-use Rattle.kept.specs.ResultLotsNews.{News, all-news}
+use Rattle.kept.specs.ResultLots.{fresh-some, not-gone}
 use Rattle.kept.specs.ResultLotsSides.{left-size, signed-size}
 use Rattle.kept.specs.ResultLotsSum.{Walked, left-most, more-left}
-use Rattle.kept.specs.ResultLotsTotal.{allWrites, history, lotAfter, summaryAfter}
-use Rattle.laws.specs.Puts.{Inside, puts-origin}
+use Rattle.kept.specs.ResultEach.{Each, closingOf, each-write, lotAfter, openingOf, summaryAfter}
 
 -- ---- a row of a kind fits where it obeys the kind's rule
 pub fits-as : (k : ℕ) (x : Row) → x .kind ≡ k → getD rules k (λ (s : Row). false) x ≡ true → Fits x
@@ -43,7 +40,7 @@ fits-as k x e h = means-fits x .shows (sym (as-kind k x e) ∙ h)
 
 module _ {rs : List Row} {t summary account broker : Row} {cs : List Closing}
     (r : Read rs t summary account broker cs) (n : Sums)
-    (inside : Inside sameRow (allWrites t summary account broker cs n) rs) (v : Walked rs t summary cs n)
+    (space : length (added t summary cs n) ≤ count (sameRow nothing) rs) (v : Walked rs t summary cs n)
     (q : Small broker n) where
   rule-of : (k : ℕ) (x : Row) → List·Memᴰ x rs → x .kind ≡ k → getD rules k (λ (s : Row). false) x ≡ true
   rule-of k x m e = as-kind k x e ∙ means-fits x .holds (means-sound rs .shows (r .good) .s1 x m)
@@ -66,7 +63,7 @@ module _ {rs : List Row} {t summary account broker : Row} {cs : List Closing}
   some-left : eqb (n .left) 0 ≡ false → 1 ≤ n .left
   some-left e = let h = eqb-false (n .left) 0 e in omega arith
 
-  closing-fits : (c : Closing) → List·Memᴰ c cs → Fits (history t c)
+  closing-fits : (c : Closing) → List·Memᴰ c cs → Fits (closingOf t c)
   closing-fits c m =
       let w = v .closed c m in
       let l = lot-fit c m .0 .0 .0 in
@@ -81,16 +78,16 @@ module _ {rs : List Row} {t summary account broker : Row} {cs : List Closing}
   left-fits c m e =
       let z = left-size (buys (t .form)) (size (c .lot) - c .shares) in
       let a = v .closed c m .most in
-      let b = more-left r n inside v c m e in
+      let b = more-left r n space v c m e in
       fits-as kindLot (lotAfter t c) (r .c-held c m .1)
       (means-lot (lotAfter t c) .holds
       (lot-left-fits (c .lot) (leftOf (t .form) c) (lot-fit c m) (omega arith) (omega arith)))
 
-  opening-fits : 1 ≤ n .left → Fits (lotHistory (t .id) (t .id) (pos 0) (signed (t .form) (n .left)))
+  opening-fits : 1 ≤ n .left → Fits (openingOf t n)
   opening-fits h =
       let l = trade-fit .0 .0 .0 in
       let z = signed-size (buys (t .form)) (n .left) in
-      let a = left-most r n inside v in
+      let a = left-most r n space v in
       lot-history-fits t trade-fit (t .id) (pos 0) (signed (t .form) (n .left)) (l .2 .2 .2 .2 .2 .0)
       (l .2 .2 .2 .2 .2 .1) (omega arith) (omega arith) (λ e. omega arith)
 
@@ -103,36 +100,37 @@ module _ {rs : List Row} {t summary account broker : Row} {cs : List Closing}
       (means-summary summary .shows (rule-of kindSummary summary (h .0) (h .1))) summed-near
       (not-gone (summedShares t summary) g)))
 
-  all-fit : News t summary account broker cs n Fits
+  all-fit : Each t summary account broker cs n (λ (w : Row × Row). Fits (w .1))
   all-fit = record {
-    free = new-put [];
-    closing = closing-fits;
-    left = left-fits;
-    opening = λ e. opening-fits (some-left e);
-    lot = λ e.
-        lot-fits t trade-fit n (q .price-least) (q .price-most) (q .time-most) (some-left e) (left-most r n inside v);
-    fresh = λ e. summary-fits t trade-fit (summedShares t summary) summed-near (fresh-some r n inside v e);
-    follows = follows-fits;
-    done = history-fits t trade-fit (n .time) (q .time-most);
+    closed = closing-fits;
+    opened = λ z. opening-fits (some-left z);
+    lot = λ z.
+        lot-fits t trade-fit n (q .price-least) (q .price-most) (q .time-most) (some-left z) (left-most r n space v);
+    begun = λ z. summary-fits t trade-fit (summedShares t summary) summed-near (fresh-some r n space v z);
+    history = history-fits t trade-fit (n .time) (q .time-most);
     settled = settlement-fits t trade-fit (n .amount) (n .time) (q .amount-most) (q .time-most);
-    paid = cash-fits t trade-fit (n .amount) (n .time) (q .amount-most) (q .time-most);
-    of-trade =
-        fits-as kindTrade (tradeWrite t n .1) (r .t-kind)
-        (means-trade (tradeWrite t n .1) .holds
-        (trade-fits t trade-fit n (q .price-least) (q .price-most) (q .time-most) (q .commission-most) (q .tax-most)));
-    of-account =
+    paid = λ z. cash-fits t trade-fit (n .amount) (n .time) (q .amount-most) (q .time-most);
+    less = left-fits;
+    summed = follows-fits;
+    balanced =
         fits-as kindAccount (holding account (n .balance)) (r .a-kind)
         (means-account (holding account (n .balance)) .holds
         (account-left-fits account (n .balance)
         (means-account account .shows (rule-of kindAccount account (r .a-held) (r .a-kind))) (q .balance-most)));
-    of-broker =
+    trade =
+        fits-as kindTrade (tradeWrite t n .1) (r .t-kind)
+        (means-trade (tradeWrite t n .1) .holds
+        (trade-fits t trade-fit n (q .price-least) (q .price-most) (q .time-most) (q .commission-most) (q .tax-most)));
+    gained =
         fits-as kindBroker (brokerWrite broker n .1) (r .b-kind)
         (means-broker (brokerWrite broker n .1) .holds
         (broker-left-fits broker n (means-broker broker .shows (rule-of kindBroker broker (r .b-held) (r .b-kind)))
         (q .trades-most) (q .total-most)));
+    freed = λ c m. new-put [];
+    emptied = λ z. new-put [];
   }
 
-  pub s1-after : S1 (after r n inside)
-  s1-after x m =
-      ⊎-elim (means-sound rs .shows (r .good) .s1 x) (all-news all-fit x)
-      (puts-origin sameRow same-rows row-itself (allWrites t summary account broker cs n) rs inside x m)
+  pub s1-after : S1 (after r n space)
+  s1-after =
+      after-each r n space Fits (means-sound rs .shows (r .good) .s1)
+      (each-write r n (λ (w : Row × Row). Fits (w .1)) all-fit)

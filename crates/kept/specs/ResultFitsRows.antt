@@ -1,13 +1,13 @@
 -- Each row that comes with a result fits the grid. Assumes nothing.
-use mathlib.Core.Path.{_≡_, refl, _∙_}
+use mathlib.Core.Path.{_≡_, refl}
 use mathlib.Core.Bool.{Bool, true, false, cond}
-use mathlib.Core.List.{[], _∷_, List·Memᴰ}
+use mathlib.Core.List.{[], _∷_}
 use mathlib.Core.Logic.{inr}
 use Prim.Native.Nat.{ℕ, _+_, _-_, _≤_}
 use native.Mathlib.Omega.{arith}
 use lib.IntN.{ℤ, natAbs}
-use Rattle.record.specs.Codes.{completed, kindCash, kindLot, kindLotHistory}
-use Rattle.record.specs.Codes.{kindSettlement, kindSummary, kindTradeHistory}
+use Rattle.record.specs.Codes.{completed, kindCash, kindLot, kindLotHistory, kindSettlement, kindSummary}
+use Rattle.record.specs.Codes.{kindTradeHistory}
 use Rattle.record.specs.declared.row.Row.{Row}
 use Rattle.rules.specs.Meaning.{Account, Broker, Cash, Lot, LotHistory, Settlement, Summary, Trade, TradeHistory}
 use Rattle.rules.specs.Ranges.{_⋯_, any32, any64, brokerTrades, cashFlag, commissionTotal, dueTime, fee, flags, id}
@@ -18,13 +18,12 @@ use Rattle.model.specs.Edit.{bits32, bits64}
 use Rattle.model.specs.Flags.{cash}
 use Rattle.model.specs.Money.{buys}
 use Rattle.model.specs.Result.{settlementSeconds, signed}
-use Rattle.model.specs.Rows.{is}
 use Rattle.result.specs.Own.{Sums, brokerWrite, tradeWrite}
 use Rattle.result.specs.Rows.{cashRow, holding, lotHistory, newSummary, settlementRow, tradeHistory}
 use Rattle.kept.specs.ResultFitsRanges.{Field, all-put, bits-most, bits-none, field, low-apart, low-most}
 use Rattle.kept.specs.ResultFitsRanges.{low-tell, new-put}
 use Rattle.kept.specs.ResultLotsSides.{bits-tell, signed-size}
-use Rattle.kept.specs.ResultLotsTotal.{history, lotOpened}
+use Rattle.kept.specs.ResultEach.{lotOpened}
 
 -- what a result writes is in its range
 pub record Small (broker : Row) (n : Sums) : Type 0 where

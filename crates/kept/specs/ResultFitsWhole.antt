@@ -1,8 +1,8 @@
 -- A result that is accepted leaves S1 and S8. Assumes nothing.
-use mathlib.Core.Path.{_≡_, refl, _∙_}
+use mathlib.Core.Path.{_≡_, refl}
 use mathlib.Core.Bool.{true, _&&_}
 use mathlib.Core.List.{List}
-use Prim.Native.Nat.{ℕ, _+_, _*_, _≤_}
+use Prim.Native.Nat.{_+_, _*_, _≤_}
 use native.Mathlib.Nat.{mul-le-mul}
 use lib.Dec.{leb}
 use lib.IntN.{natAbs}
@@ -16,17 +16,17 @@ use Rattle.rules.specs.Ranges.{brokerTrades, charged, commissionPart, commissio
 use Rattle.rules.specs.Ranges.{sharesMost, taxPart}
 use Rattle.rules.specs.Rules.{resultInput}
 use Rattle.model.specs.Names.{aBroker}
-use Rattle.model.specs.Result.{figures, posting, result, view}
-use Rattle.model.specs.Rows.{found, is, mostRecords}
+use Rattle.model.specs.Result.{figures, posting, view}
+use Rattle.model.specs.Rows.{found, mostRecords}
 use Rattle.model.specs.Sound.{sound}
 use Rattle.model.specs.SoundMeans.{S1, S8}
 use Rattle.result.specs.Figures.{charge-fits, price-fits, rate-fits, rates-fit, termsOf}
-use Rattle.result.specs.Posted.{reads, sumsOf}
-use Rattle.kept.specs.ResultBase.{Accepted, result-inside}
+use Rattle.result.specs.Posted.{sumsOf}
+use Rattle.kept.specs.ResultBase.{Accepted}
 use Rattle.kept.specs.ResultFits.{s1-after}
 use Rattle.kept.specs.ResultFitsFigures.{commission-in-range, settlement-in-range, sold-in-range, tax-in-range}
 use Rattle.kept.specs.ResultFitsRows.{Small}
-use Rattle.kept.specs.ResultLeft.{resultLeaves}
+use Rattle.kept.specs.ResultLeft.{read, resultLeaves, space}
 use Rattle.kept.specs.ResultLots.{s8-after}
 use Rattle.kept.specs.ResultLotsWalk.{lot-fits, trade-fits, walked}
 
@@ -101,13 +101,11 @@ module _ (rs : List Row) (input : Row) (good : sound rs ≡ true) (right : resul
   pub s1-result : S1 (resultLeaves rs input good ok)
   unfolding posting
   s1-result =
-      s1-after (reads rs input good (ok .live) (ok .sent)) (sumsOf input (figures input (view rs input)))
-      (result-inside rs input good ok)
+      s1-after (read rs input good ok) (sumsOf input (figures input (view rs input))) (space rs input good ok)
       (walked rs input good few (ok .live) (ok .sent)) small
 
   pub s8-result : S8 (resultLeaves rs input good ok)
   unfolding posting
   s8-result =
-      s8-after (reads rs input good (ok .live) (ok .sent)) (sumsOf input (figures input (view rs input)))
-      (result-inside rs input good ok)
+      s8-after (read rs input good ok) (sumsOf input (figures input (view rs input))) (space rs input good ok)
       (walked rs input good few (ok .live) (ok .sent)) s1-result

@@ -11,8 +11,7 @@ use Rattle.laws.specs.Keep.{the-has}
 use Rattle.laws.specs.Place.{the-passes}
 use Rattle.laws.specs.Search.{bit, count, the}
 use Rattle.laws.specs.Tests.{and-both, and-left, and-right}
-use Rattle.record.specs.Codes.{completed, kindCash, kindFree, kindLotHistory, kindSummary}
-use Rattle.record.specs.Codes.{kindTradeHistory, submitted}
+use Rattle.record.specs.Codes.{completed, kindCash, kindFree, kindLotHistory, kindSummary, kindTradeHistory, submitted}
 use Rattle.record.specs.Key.{keyOf}
 use Rattle.record.specs.KeyLaws.{keys-tell, same-keys}
 use Rattle.record.specs.declared.key.Key.{Key}
@@ -26,7 +25,8 @@ use Rattle.shelf.specs.Put.{found-none}
 use Rattle.tables.specs.Names.{by-id, by-status, ofId}
 use Rattle.result.specs.Apart.{found-kind, key-kind}
 use Rattle.result.specs.Own.{Read, Sums}
-use Rattle.kept.specs.ResultEach.{lotOf}
+use Rattle.kept.specs.Cases.{not-so}
+use Rattle.kept.specs.ResultEach.{lotOpened}
 use Rattle.laws.specs.Puts.{count-less, count-no, the-one}
 
 -- ---- keys of a book where none is there twice
@@ -71,17 +71,13 @@ not-yet l t s above none =
     in
     omega arith
 
-not-so : (b : Bool) → (b ≡ true → ⊥) → b ≡ false
-not-so true h = absurd (h refl)
-not-so false h = refl
-
 module _ {rs : List Row} {t summary account broker : Row} {cs : List Closing}
     (r : Read rs t summary account broker cs) (n : Sums) where
   abbrev pub book : SoundBook rs
   book = means-sound rs .shows (r .good)
 
   -- the trade is not completed
-  not-done : (i : ℕ) → t .id ≡ i → found (aTrade i) rs .status ≡ completed → ⊥
+  pub not-done : (i : ℕ) → t .id ≡ i → found (aTrade i) rs .status ≡ completed → ⊥
   not-done i e d =
       let mine : t .status ≡ found (aTrade i) rs .status =
       ap (λ (o : Row). o .status) (sym (r .t-own)) ∙ ap (λ (j : ℕ). found (aTrade j) rs .status) e
@@ -124,12 +120,12 @@ module _ {rs : List Row} {t summary account broker : Row} {cs : List Closing}
       let ix : x .m2 ≡ h .m2 = same .m2 (rw kx) in
       not-done (x .m2) (sym i ∙ sym ix) (book .s10 x m kx .1)))
 
-  pub no-lot : count (hasKey (keyOf (lotOf t n))) rs ≡ 0
+  pub no-lot : count (hasKey (keyOf (lotOpened t n))) rs ≡ 0
   unfolding hasKey
   no-lot =
-      count-no (hasKey (keyOf (lotOf t n))) rs
-      (λ x m. not-so (hasKey (keyOf (lotOf t n)) x) (λ e.
-      let same = keys-tell (lotOf t n) x (sym (same-keys (keyOf x) (keyOf (lotOf t n)) e)) in
+      count-no (hasKey (keyOf (lotOpened t n))) rs
+      (λ x m. not-so (hasKey (keyOf (lotOpened t n)) x) (λ e.
+      let same = keys-tell (lotOpened t n) x (sym (same-keys (keyOf x) (keyOf (lotOpened t n)) e)) in
       not-done (x .id) (same .id refl) (book .s8 x m .0 (sym (same .kind)) .0 .0 .0 .0)))
 
   module _ (s-own : summary ≡ found (aSummary (t .party) (t .symbol)) rs) where

@@ -1,6 +1,6 @@
 -- A result that is done leaves S2: no key is there twice. Assumes nothing.
 use mathlib.Core.Path.{_≡_, refl, sym, ap, subst, _∙_}
-use mathlib.Core.Bool.{Bool, true, false, cond, not, _&&_, false≢true}
+use mathlib.Core.Bool.{Bool, true, false, cond, not}
 use mathlib.Core.List.{List, [], _∷_, _++_, List·Memᴰ}
 use mathlib.Core.Logic.{_⊎_, inl, inr}
 use Prim.Native.Nat.{ℕ, _+_, _≤_}
@@ -31,11 +31,11 @@ use Rattle.result.specs.Posted.{of-kind}
 use Rattle.result.specs.Rows.{closingRows, finalRows, openingRows, summaryRows}
 use Rattle.kept.specs.Posted.{adds}
 use Rattle.kept.specs.ResultBase.{all, all-inside}
-use Rattle.kept.specs.ResultEach.{cashOf, closingOf, historyOf, lotOf, openingOf, settlementOf, summaryOf}
+use Rattle.kept.specs.ResultEach.{cashOf, closingOf, historyOf, lotOpened, openingOf, settlementOf}
+use Rattle.kept.specs.ResultEach.{summaryOpened}
 use Rattle.kept.specs.ResultFresh.{book, no-cash, no-history, no-lot, no-lot-history, no-settlement, no-summary}
 use Rattle.kept.specs.ResultFresh.{one-key}
-use Rattle.laws.specs.Puts.{count-less, count-no}
-use Rattle.laws.specs.Puts.{puts-count}
+use Rattle.laws.specs.Puts.{count-less, count-no, puts-count}
 
 -- ---- the kinds of rows that are added are six, and a key has one of them
 abbrev kinds : ℕ → ℕ
@@ -163,12 +163,12 @@ module _ {rs : List Row} {t summary account broker : Row} {cs : List Closing}
             omega arith
 
     opening-few : count (hasKey k) (openingRows t (n .price) (n .left) (n .time))
-        ≤ bit (hasKey k (openingOf t n)) + bit (hasKey k (lotOf t n))
+        ≤ bit (hasKey k (openingOf t n)) + bit (hasKey k (lotOpened t n))
     unfolding count total
     opening-few = go (eqb (n .left) 0)
       where
-        go : (b : Bool) → count (hasKey k) (cond b [] (openingOf t n ∷ lotOf t n ∷ []))
-            ≤ bit (hasKey k (openingOf t n)) + bit (hasKey k (lotOf t n))
+        go : (b : Bool) → count (hasKey k) (cond b [] (openingOf t n ∷ lotOpened t n ∷ []))
+            ≤ bit (hasKey k (openingOf t n)) + bit (hasKey k (lotOpened t n))
         go true = omega arith
         go false = omega arith
 
@@ -178,11 +178,11 @@ module _ {rs : List Row} {t summary account broker : Row} {cs : List Closing}
     summary-few = go (is kindFree summary) refl
       where
         go : (b : Bool) → is kindFree summary ≡ b
-            → (count (hasKey k) (cond (not b) [] (summaryOf t summary ∷ [])) ≤ bit (eqb (k .kind) kindSummary))
-            × (count (hasKey k) rs + count (hasKey k) (cond (not b) [] (summaryOf t summary ∷ [])) ≤ 1)
+            → (count (hasKey k) (cond (not b) [] (summaryOpened t summary ∷ [])) ≤ bit (eqb (k .kind) kindSummary))
+            × (count (hasKey k) rs + count (hasKey k) (cond (not b) [] (summaryOpened t summary ∷ [])) ≤ 1)
         go true e =
-            let a = of-kind k (summaryOf t summary) kindSummary refl in
-            let b = beside (summaryOf t summary) (no-summary r n s-own e) in
+            let a = of-kind k (summaryOpened t summary) kindSummary refl in
+            let b = beside (summaryOpened t summary) (no-summary r n s-own e) in
             (omega arith, omega arith)
         go false e = let w = was in (omega arith, omega arith)
 
@@ -193,14 +193,14 @@ module _ {rs : List Row} {t summary account broker : Row} {cs : List Closing}
 
     abbrev parts : ℕ
     parts =
-        count (hasKey k) (closingRows t cs) + bit (hasKey k (openingOf t n)) + bit (hasKey k (lotOf t n))
+        count (hasKey k) (closingRows t cs) + bit (hasKey k (openingOf t n)) + bit (hasKey k (lotOpened t n))
         + count (hasKey k) (summaryRows t summary) + bit (hasKey k (historyOf t n))
         + bit (hasKey k (settlementOf t n)) + bit (hasKey k (cashOf t n))
 
     parts-few : parts ≤ 1
     parts-few =
         let k1 = histories-kind in
-        let k2 = of-kind k (lotOf t n) kindLot refl in
+        let k2 = of-kind k (lotOpened t n) kindLot refl in
         let k3 = summary-few .0 in
         let k4 = of-kind k (historyOf t n) kindTradeHistory refl in
         let k5 = of-kind k (settlementOf t n) kindSettlement refl in
@@ -214,7 +214,7 @@ module _ {rs : List Row} {t summary account broker : Row} {cs : List Closing}
         let x = count (hasKey k) rs in
         let c1 = count (hasKey k) (closingRows t cs) in
         let c2 = bit (hasKey k (openingOf t n)) in
-        let c3 = bit (hasKey k (lotOf t n)) in
+        let c3 = bit (hasKey k (lotOpened t n)) in
         let c4 = count (hasKey k) (summaryRows t summary) in
         let c5 = bit (hasKey k (historyOf t n)) in
         let c6 = bit (hasKey k (settlementOf t n)) in
@@ -226,7 +226,7 @@ module _ {rs : List Row} {t summary account broker : Row} {cs : List Closing}
         (λ h3. step x (c1 + c2) c3 h3
         (λ h2. step x c1 c2 h2 (λ h1. histories-new)
         (beside (openingOf t n) (no-lot-history r n (openingOf t n) refl refl)))
-        (beside (lotOf t n) (no-lot r n)))
+        (beside (lotOpened t n) (no-lot r n)))
         (summary-few .1))
         (beside (historyOf t n) (no-history r n)))
         (beside (settlementOf t n) (no-settlement r n)))

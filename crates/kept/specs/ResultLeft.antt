@@ -25,7 +25,7 @@ use Rattle.kept.specs.ResultStatus.{histories-left, lot-histories-left, 
 
 module _ (rs : List Row) (input : Row) (good : sound rs ≡ true) (ok : Accepted rs input) where
   -- what the result read, and that there is room
-  abbrev read : let v = view rs input in
+  abbrev pub read : let v = view rs input in
       Read rs (v .trade) (v .summary) (v .account) (found (aBroker (v .account .n1)) rs)
       (closings (v .trade .n1) (v .lots))
   read = reads rs input good (ok .live) (ok .sent)
@@ -35,7 +35,7 @@ module _ (rs : List Row) (input : Row) (good : sound rs ≡ true) (ok : Accepted
   unfolding view
   summary-own = refl
 
-  space : length (postingOf rs input .added) ≤ count (sameRow nothing) rs
+  pub space : length (postingOf rs input .added) ≤ count (sameRow nothing) rs
   space = let e = room-is rs good in let s = ok .space in omega arith
 
   abbrev pub resultLeaves : List Row

@@ -1,31 +1,30 @@
--- What a result puts in the places of others: the laws of totals for what only lots, only summaries or only trades
--- count for. Assumes nothing.
+-- What a result puts in the places of others: the laws of totals for what only lots or only summaries count for.
+-- Assumes nothing.
 use mathlib.Core.Path.{_≡_, refl, ap, _∙_}
 use mathlib.Core.Bool.{Bool, true, false, cond}
 use mathlib.Core.List.{List}
-use Prim.Native.Nat.{ℕ, _+_}
+use Prim.Native.Nat.{ℕ, _+_, _≤_}
 use native.Mathlib.Omega.{arith}
 use lib.Dec.{eqb}
-use lib.IntN.{pos}
-use Rattle.laws.specs.Change.{puts}
-use Rattle.laws.specs.Search.{keep, total}
+use lib.ListN.{length}
+use Rattle.laws.specs.Search.{count, keep, total}
 use Rattle.record.specs.Codes.{kindAccount, kindBroker, kindCash, kindFree, kindLot, kindLotHistory, kindSettlement}
 use Rattle.record.specs.Codes.{kindSummary, kindTrade, kindTradeHistory}
 use Rattle.laws.specs.Keep.{keep-from}
 use Rattle.record.specs.declared.row.Row.{Row}
 use Rattle.model.specs.Flags.{cash}
 use Rattle.model.specs.Lots.{Closing}
-use Rattle.model.specs.Result.{signed}
 use Rattle.model.specs.Rows.{is, nothing, sameRow}
 use Rattle.shelf.specs.Put.{row-itself, same-rows}
-use Rattle.result.specs.Own.{Read, Sums, brokerWrite, tradeWrite}
-use Rattle.result.specs.Rows.{cashRow, gone, holding}
-use Rattle.result.specs.Rows.{lotHistory, reduced, settlementRow}
-use Rattle.result.specs.Rows.{summedShares, tradeHistory}
-use Rattle.laws.specs.Puts.{Inside, news, olds, puts-total}
-use Rattle.kept.specs.ResultLotsTotal.{allWrites, history, lotAfter, lotOpened, new-total, old-total}
+use Rattle.result.specs.Own.{Read, Sums, added, brokerWrite, tradeWrite}
+use Rattle.result.specs.Rows.{gone, holding, reduced, summedShares}
+use Rattle.laws.specs.Puts.{puts-total}
+use Rattle.kept.specs.ResultAfter.{after}
+use Rattle.kept.specs.ResultBase.{all, all-inside}
+use Rattle.kept.specs.ResultEach.{cashOf, closingOf, historyOf, lotAfter, lotOpened, openingOf, settlementOf}
+use Rattle.kept.specs.ResultEach.{summaryAfter, summaryOpened}
+use Rattle.kept.specs.ResultLotsTotal.{new-total, old-total}
 use Rattle.laws.specs.Total.{total-zero}
-use Rattle.kept.specs.ResultLotsTotal.{summaryAfter, summaryOpened}
 
 -- ---- what only one kind counts for
 cond-none : (b : Bool) (x : ℕ) → x ≡ 0 → cond b x 0 ≡ 0
@@ -42,14 +41,7 @@ none-cond false x e = e refl
 
 module _ {rs : List Row} {t summary account broker : Row} {cs : List Closing}
     (r : Read rs t summary account broker cs) (n : Sums)
-    (inside : Inside sameRow (allWrites t summary account broker cs n) rs) where
-  abbrev pub after : List Row
-  after = puts sameRow (allWrites t summary account broker cs n) rs
-
-  abbrev law : (Row → ℕ) → Type 0
-  law μ = total μ after + total μ (olds (allWrites t summary account broker cs n))
-      ≡ total μ rs + total μ (news (allWrites t summary account broker cs n))
-
+    (space : length (added t summary cs n) ≤ count (sameRow nothing) rs) where
   -- a measure that one kind alone counts for: a row of another kind counts for nothing
   module _ (k : ℕ) (μ : Row → ℕ) (off : (x : Row) → is k x ≡ false → μ x ≡ 0) where
     aside : (j : ℕ) (x : Row) → eqb j k ≡ false → x .kind ≡ j → μ x ≡ 0
@@ -58,31 +50,30 @@ module _ {rs : List Row} {t summary account broker : Row} {cs : List Closing}
     module _ (free : eqb kindFree k ≡ false) (broker-not : eqb kindBroker k ≡ false)
         (account-not : eqb kindAccount k ≡ false) (history-not : eqb kindTradeHistory k ≡ false)
         (lot-history-not : eqb kindLotHistory k ≡ false) (settlement-not : eqb kindSettlement k ≡ false)
-        (cash-not : eqb kindCash k ≡ false) where
-      -- lots, the summary and the trade are all that can count
-      kind-law : total μ after + (total (λ (c : Closing). μ (c .lot)) cs + cond (is kindFree summary) 0 (μ summary) + μ t)
+        (cash-not : eqb kindCash k ≡ false) (trade-not : eqb kindTrade k ≡ false) where
+      -- lots and the summary are all that can count
+      kind-law : total μ (after r n space)
+          + (total (λ (c : Closing). μ (c .lot)) cs + cond (is kindFree summary) 0 (μ summary))
           ≡ total μ rs + (cond (eqb (n .left) 0) 0 (μ (lotOpened t n))
           + cond (is kindFree summary) (μ (summaryOpened t summary)) 0
           + total (λ (c : Closing). μ (lotAfter t c)) (keep reduced cs)
-          + cond (is kindFree summary) 0 (cond (gone (summedShares t summary)) 0 (μ (summaryAfter t summary)))
-          + μ (tradeWrite t n .1))
+          + cond (is kindFree summary) 0 (cond (gone (summedShares t summary)) 0 (μ (summaryAfter t summary))))
       kind-law =
-          let ws = allWrites t summary account broker cs n in
-          let all : law μ = puts-total sameRow same-rows row-itself μ ws rs inside in
+          let law = puts-total sameRow same-rows row-itself μ (all r n) rs (all-inside r n space) in
           let none = off nothing free in
-          let go = old-total t summary account broker cs n μ none in
-          let come = new-total t summary account broker cs n μ none in
-          let h = lotHistory (t .id) (t .id) (pos 0) (signed (t .form) (n .left)) in
-          let paid = cashRow t (n .amount) (n .time) in
+          let go = old-total r n μ none in
+          let come = new-total r n μ none in
           let a2 = cond-none (cash (t .flags)) (μ account) (aside kindAccount account account-not (r .a-kind)) in
+          let a3 = aside kindTrade t trade-not (r .t-kind) in
           let a4 = aside kindBroker broker broker-not (r .b-kind) in
-          let b1 = total-zero (λ (c : Closing). μ (history t c)) cs (λ c m. off (history t c) lot-history-not) in
-          let b2 = cond-second (eqb (n .left) 0) (μ h) (μ (lotOpened t n)) (off h lot-history-not) in
-          let b4 = off (tradeHistory t (n .time)) history-not in
-          let b5 = off (settlementRow t (n .amount) (n .time)) settlement-not in
-          let b6 = cond-none (cash (t .flags)) (μ paid) (off paid cash-not) in
-          let b8 = cond-none (cash (t .flags)) _ (aside kindAccount (holding account (n .balance)) account-not (r .a-kind))
-          in
+          let b1 = total-zero (λ (c : Closing). μ (closingOf t c)) cs (λ c m. off (closingOf t c) lot-history-not) in
+          let b2 = cond-second (eqb (n .left) 0) _ (μ (lotOpened t n)) (off (openingOf t n) lot-history-not) in
+          let b4 = off (historyOf t n) history-not in
+          let b5 = off (settlementOf t n) settlement-not in
+          let b6 = cond-none (cash (t .flags)) (μ (cashOf t n)) (off (cashOf t n) cash-not) in
+          let x = holding account (n .balance) in
+          let b8 = cond-none (cash (t .flags)) (μ x) (aside kindAccount x account-not (r .a-kind)) in
+          let b9 = aside kindTrade (tradeWrite t n .1) trade-not (r .t-kind) in
           let b10 = aside kindBroker (brokerWrite broker n .1) broker-not (r .b-kind) in
           omega arith
 
@@ -109,34 +100,20 @@ module _ {rs : List Row} {t summary account broker : Row} {cs : List Closing}
             (λ g. aside kindSummary (summaryAfter t summary) summary-not (r .s-held e .1))),
       )
 
-    module _ (trade-not : eqb kindTrade k ≡ false) where
-      trade-none : (μ t ≡ 0) × (μ (tradeWrite t n .1) ≡ 0)
-      trade-none = (aside kindTrade t trade-not (r .t-kind), aside kindTrade (tradeWrite t n .1) trade-not (r .t-kind))
-
   module _ (μ : Row → ℕ) (off : (x : Row) → is kindLot x ≡ false → μ x ≡ 0) where
-    pub lots-law : total μ after + total (λ (c : Closing). μ (c .lot)) cs
+    pub lots-law : total μ (after r n space) + total (λ (c : Closing). μ (c .lot)) cs
         ≡ total μ rs + (cond (eqb (n .left) 0) 0 (μ (lotOpened t n))
         + total (λ (c : Closing). μ (lotAfter t c)) (keep reduced cs))
     lots-law =
-        let all = kind-law kindLot μ off refl refl refl refl refl refl refl in
+        let all = kind-law kindLot μ off refl refl refl refl refl refl refl refl in
         let (s1, s2, s3) = summary-none kindLot μ off refl in
-        let (t1, t2) = trade-none kindLot μ off refl in
-        omega arith
-
-  module _ (μ : Row → ℕ) (off : (x : Row) → is kindTrade x ≡ false → μ x ≡ 0) where
-    pub trades-law : total μ after + μ t ≡ total μ rs + μ (tradeWrite t n .1)
-    trades-law =
-        let all = kind-law kindTrade μ off refl refl refl refl refl refl refl in
-        let (l1, l2, l3) = lots-none kindTrade μ off refl in
-        let (s1, s2, s3) = summary-none kindTrade μ off refl in
         omega arith
 
   module _ (μ : Row → ℕ) (off : (x : Row) → is kindSummary x ≡ false → μ x ≡ 0) where
-    pub summaries-law : total μ after + cond (is kindFree summary) 0 (μ summary)
+    pub summaries-law : total μ (after r n space) + cond (is kindFree summary) 0 (μ summary)
         ≡ total μ rs + (cond (is kindFree summary) (μ (summaryOpened t summary)) 0
         + cond (is kindFree summary) 0 (cond (gone (summedShares t summary)) 0 (μ (summaryAfter t summary))))
     summaries-law =
-        let all = kind-law kindSummary μ off refl refl refl refl refl refl refl in
+        let all = kind-law kindSummary μ off refl refl refl refl refl refl refl refl in
         let (l1, l2, l3) = lots-none kindSummary μ off refl in
-        let (t1, t2) = trade-none kindSummary μ off refl in
         omega arith

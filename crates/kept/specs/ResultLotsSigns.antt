@@ -1,12 +1,13 @@
 -- Lots of one account and symbol have one sign after a result as before: a lot is opened only where none of the other
 -- sign is left. And lots of another account or symbol are not touched. Assumes nothing.
 use mathlib.Core.Path.{_≡_, refl, sym, ap, _∙_}
-use mathlib.Core.Bool.{Bool, true, false, cond, not, _&&_, false≢true}
-use mathlib.Core.List.{List, [], List·Memᴰ}
+use mathlib.Core.Bool.{Bool, true, false, cond, not, _&&_}
+use mathlib.Core.List.{List, List·Memᴰ}
 use mathlib.Core.Logic.{_⊎_, inl, inr, ⊎-elim}
 use Prim.Native.Nat.{ℕ, _+_, _≤_}
 use native.Mathlib.Omega.{arith}
 use lib.Dec.{eqb, leb}
+use lib.ListN.{length}
 use borrow.Author.Tests.{eqb-true, le-leb, leb-false, leb-true, ne-eqb}
 use Rattle.laws.specs.Keep.{count-fewer, count-has, count-on, keep-from, the-has}
 use Rattle.laws.specs.Place.{the-passes}
@@ -19,15 +20,15 @@ use Rattle.model.specs.Money.{buys}
 use Rattle.model.specs.Rows.{is, nothing, sameRow}
 use Rattle.model.specs.Sound.{lotOf, otherSign, sharesOf, short}
 use Rattle.model.specs.SoundMeans.{means-sound}
-use Rattle.result.specs.Own.{Read, Sums}
+use Rattle.result.specs.Own.{Read, Sums, added}
 use Rattle.result.specs.Rows.{reduced}
-use Rattle.kept.specs.ResultLotsLaw.{after, lots-law}
+use Rattle.kept.specs.ResultAfter.{after}
+use Rattle.kept.specs.ResultLotsLaw.{lots-law}
 use Rattle.kept.specs.ResultLotsSides.{eq-sides, iff-one, iff-other, iff-same, iff-turned, iff-two, part}
 use Rattle.kept.specs.ResultLotsSides.{sum-sides}
 use Rattle.kept.specs.ResultLotsSum.{Walked, left-other, no-shares, not-lot, opened-held, opened-short}
 use Rattle.laws.specs.Total.{total-zero}
-use Rattle.kept.specs.ResultLotsTotal.{allWrites, lotAfter, lotOpened}
-use Rattle.laws.specs.Puts.{Inside}
+use Rattle.kept.specs.ResultEach.{lotAfter, lotOpened}
 
 -- ---- what a lot of an account and symbol is
 module _ (account symbol : ℕ) (x : Row) (e : lotOf account symbol x ≡ true) where
@@ -94,7 +95,7 @@ none-or a b h = go (leb 1 a) refl
 
 module _ {rs : List Row} {t summary account broker : Row} {cs : List Closing}
     (r : Read rs t summary account broker cs) (n : Sums)
-    (inside : Inside sameRow (allWrites t summary account broker cs n) rs) (v : Walked rs t summary cs n) where
+    (space : length (added t summary cs n) ≤ count (sameRow nothing) rs) (v : Walked rs t summary cs n) where
   one-before : (count (yours t) rs ≡ 0) ⊎ (count (mine t) rs ≡ 0)
   one-before =
       none-or (count (yours t) rs) (count (mine t) rs)
@@ -109,14 +110,14 @@ module _ {rs : List Row} {t summary account broker : Row} {cs : List Closing}
       sym (count-on (otherSign l) (mine t) rs (λ x k. beside-yours t l held s x)) ∙ right .0 .1)
 
   -- of the trade's own sign there is one more where shares are left over
-  mine-law : count (mine t) (after r n inside)
+  mine-law : count (mine t) (after r n space)
       ≡ count (mine t) rs + cond (eqb (n .left) 0) 0 (bit (mine t (lotOpened t n)))
   unfolding count
   mine-law =
-      let law = lots-law r n inside (λ x. bit (mine t x)) (λ x e. off x e) in
+      let law = lots-law r n space (λ x. bit (mine t x)) (λ x e. off x e) in
       let a = total-zero (λ (c : Closing). bit (mine t (c .lot))) cs (λ c m. none (c .lot) (v .closed c m .other)) in
       let b = total-zero (λ (c : Closing). bit (mine t (lotAfter t c))) (keep reduced cs)
-      (λ c m. let k = keep-from reduced c cs m in none (lotAfter t c) (left-other r n inside v c (k .0) (k .1)))
+      (λ c m. let k = keep-from reduced c cs m in none (lotAfter t c) (left-other r n space v c (k .0) (k .1)))
       in
       omega arith
     where
@@ -130,32 +131,32 @@ module _ {rs : List Row} {t summary account broker : Row} {cs : List Closing}
           go true = rw (iff-same (buys (t .form)) (short x) s)
           go false = refl
 
-  yours-law : count (yours t) (after r n inside) + count (λ (c : Closing). yours t (c .lot)) cs
+  yours-law : count (yours t) (after r n space) + count (λ (c : Closing). yours t (c .lot)) cs
       ≡ count (yours t) rs + cond (eqb (n .left) 0) 0 (bit (yours t (lotOpened t n)))
       + count (λ (c : Closing). yours t (lotAfter t c)) (keep reduced cs)
   unfolding count
   yours-law =
-      let law = lots-law r n inside (λ x. bit (yours t x)) (λ x e. off x e) in
+      let law = lots-law r n space (λ x. bit (yours t x)) (λ x e. off x e) in
       omega arith
     where
       off : (x : Row) → is kindLot x ≡ false → bit (yours t x) ≡ 0
       off x e = rw e
 
   -- where none is opened, none comes; where one is, none is left
-  yours-none : 1 ≤ n .left → count (yours t) (after r n inside) ≡ 0
+  yours-none : 1 ≤ n .left → count (yours t) (after r n space) ≡ 0
   unfolding count total
   yours-none h =
       let law = yours-law in
       let s = v .spent h in
       let o : yours t (lotOpened t n) ≡ false =
-      rw (opened-held r n inside v, iff-other (buys (t .form)) (short (lotOpened t n)) (opened-short r n inside v h))
+      rw (opened-held r n space v, iff-other (buys (t .form)) (short (lotOpened t n)) (opened-short r n space v h))
       in
       let a : cond (eqb (n .left) 0) 0 (bit (yours t (lotOpened t n))) ≡ 0 = rw (ne-eqb (n .left) 0 (omega arith), o) in
       let b : count (λ (c : Closing). yours t (lotAfter t c)) (keep reduced cs) ≡ 0 = rw (s .0) in
       let c = s .1 in
       omega arith
 
-  mine-none : n .left ≡ 0 → count (mine t) rs ≡ 0 → count (mine t) (after r n inside) ≡ 0
+  mine-none : n .left ≡ 0 → count (mine t) rs ≡ 0 → count (mine t) (after r n space) ≡ 0
   mine-none h e =
       let law = mine-law in
       let a : cond (eqb (n .left) 0) 0 (bit (mine t (lotOpened t n))) ≡ 0 = rw h in
@@ -171,7 +172,7 @@ module _ {rs : List Row} {t summary account broker : Row} {cs : List Closing}
       (λ c m.
       let k = keep-from reduced c cs m in
       let w = v .closed c (k .0) in
-      is-yours (lotAfter t c) (w .held) (left-other r n inside v c (k .0) (k .1))
+      is-yours (lotAfter t c) (w .held) (left-other r n space v c (k .0) (k .1))
       ∙ sym (is-yours (c .lot) (w .held) (w .other)))
       in
       let h = count-fewer (λ (c : Closing). yours t (c .lot)) reduced cs in
@@ -181,11 +182,11 @@ module _ {rs : List Row} {t summary account broker : Row} {cs : List Closing}
       is-yours x e s =
           and-both (lotOf (t .party) (t .symbol) x) (buys (t .form) ⇔ short x) e (iff-same (buys (t .form)) (short x) s)
 
-  pub one-after : (count (yours t) (after r n inside) ≡ 0) ⊎ (count (mine t) (after r n inside) ≡ 0)
+  pub one-after : (count (yours t) (after r n space) ≡ 0) ⊎ (count (mine t) (after r n space) ≡ 0)
   one-after = go (leb 1 (n .left)) refl
     where
       go : (b : Bool) → leb 1 (n .left) ≡ b
-          → (count (yours t) (after r n inside) ≡ 0) ⊎ (count (mine t) (after r n inside) ≡ 0)
+          → (count (yours t) (after r n space) ≡ 0) ⊎ (count (mine t) (after r n space) ≡ 0)
       go true e = inl (yours-none (leb-true 1 (n .left) e))
       go false e =
           let k = leb-false 1 (n .left) e in
@@ -196,47 +197,47 @@ module _ {rs : List Row} {t summary account broker : Row} {cs : List Closing}
           ⊎-elim (λ u. inl (omega arith)) (λ u. inr (mine-none z u)) one-before
 
   -- so all that are left have one sign
-  module _ (l : Row) (m : List·Memᴰ l (after r n inside)) (held : lotOf (t .party) (t .symbol) l ≡ true) where
-    pub not-yours : count (yours t) (after r n inside) ≡ 0 → short l ≡ not (buys (t .form))
+  module _ (l : Row) (m : List·Memᴰ l (after r n space)) (held : lotOf (t .party) (t .symbol) l ≡ true) where
+    pub not-yours : count (yours t) (after r n space) ≡ 0 → short l ≡ not (buys (t .form))
     not-yours u = go (buys (t .form) ⇔ short l) refl
       where
         go : (b : Bool) → (buys (t .form) ⇔ short l) ≡ b → short l ≡ not (buys (t .form))
         go true e =
-            let h = count-has (yours t) l (after r n inside) m
+            let h = count-has (yours t) l (after r n space) m
             (and-both (lotOf (t .party) (t .symbol) l) (buys (t .form) ⇔ short l) held e)
             in
             absurd (omega arith)
         go false e = iff-two (buys (t .form)) (short l) e
 
-    pub not-mine : count (mine t) (after r n inside) ≡ 0 → short l ≡ buys (t .form)
+    pub not-mine : count (mine t) (after r n space) ≡ 0 → short l ≡ buys (t .form)
     not-mine u = go (buys (t .form) ⇔ short l) refl
       where
         go : (b : Bool) → (buys (t .form) ⇔ short l) ≡ b → short l ≡ buys (t .form)
         go true e = iff-one (buys (t .form)) (short l) e
         go false e =
-            let h = count-has (mine t) l (after r n inside) m
+            let h = count-has (mine t) l (after r n space) m
             (and-both (lotOf (t .party) (t .symbol) l) (not (buys (t .form) ⇔ short l)) held (ap not e))
             in
             absurd (omega arith)
 
-    pub signs-right : count (otherSign l) (after r n inside) ≡ 0
+    pub signs-right : count (otherSign l) (after r n space) ≡ 0
     signs-right =
         ⊎-elim
-        (λ u. count-on (otherSign l) (yours t) (after r n inside) (λ x k. beside-mine t l held (not-yours u) x) ∙ u)
-        (λ u. count-on (otherSign l) (mine t) (after r n inside) (λ x k. beside-yours t l held (not-mine u) x) ∙ u)
+        (λ u. count-on (otherSign l) (yours t) (after r n space) (λ x k. beside-mine t l held (not-yours u) x) ∙ u)
+        (λ u. count-on (otherSign l) (mine t) (after r n space) (λ x k. beside-yours t l held (not-mine u) x) ∙ u)
         one-after
 
   -- ---- another account or symbol
   module _ (a y : ℕ) (apart : (eqb (t .party) a && eqb (t .symbol) y) ≡ false) where
     pub untouched : (μ : Row → ℕ) → ((x : Row) → lotOf a y x ≡ false → μ x ≡ 0)
-        → total μ (after r n inside) ≡ total μ rs
+        → total μ (after r n space) ≡ total μ rs
     untouched μ none =
-        let law = lots-law r n inside μ (λ x e. none x (not-lot a y x e)) in
+        let law = lots-law r n space μ (λ x e. none x (not-lot a y x e)) in
         let away : (x : Row) → lotOf (t .party) (t .symbol) x ≡ true → μ x ≡ 0 =
         λ x e. none x (not-both a y (t .party) (t .symbol) x apart e)
         in
         let c1 = total-zero (λ (c : Closing). μ (c .lot)) cs (λ c m. away (c .lot) (v .closed c m .held)) in
-        let c2 = none-cond (eqb (n .left) 0) (μ (lotOpened t n)) (away (lotOpened t n) (opened-held r n inside v)) in
+        let c2 = none-cond (eqb (n .left) 0) (μ (lotOpened t n)) (away (lotOpened t n) (opened-held r n space v)) in
         let c3 = total-zero (λ (c : Closing). μ (lotAfter t c)) (keep reduced cs)
         (λ c m. away (lotAfter t c) (v .closed c (keep-from reduced c cs m .0) .held))
         in
@@ -247,14 +248,14 @@ module _ {rs : List Row} {t summary account broker : Row} {cs : List Closing}
         none-cond false x e = e
 
     pub count-untouched : (p : Row → Bool) → ((x : Row) → lotOf a y x ≡ false → p x ≡ false)
-        → count p (after r n inside) ≡ count p rs
+        → count p (after r n space) ≡ count p rs
     unfolding count
     count-untouched p none = untouched (λ x. bit (p x)) (λ x e. ap bit (none x e))
 
-    pub sum-untouched : sumZ (sharesOf a y) (after r n inside) ≡ sumZ (sharesOf a y) rs
+    pub sum-untouched : sumZ (sharesOf a y) (after r n space) ≡ sumZ (sharesOf a y) rs
     sum-untouched =
         let u = untouched (λ x. part true (sharesOf a y x)) (λ x e. no-shares true a y x e) in
         let w = untouched (λ x. part false (sharesOf a y x)) (λ x e. no-shares false a y x e) in
-        let f = sum-sides true (sharesOf a y) (after r n inside) in
+        let f = sum-sides true (sharesOf a y) (after r n space) in
         let g = sum-sides true (sharesOf a y) rs in
-        eq-sides true (sumZ (sharesOf a y) (after r n inside)) (sumZ (sharesOf a y) rs) (omega arith)
+        eq-sides true (sumZ (sharesOf a y) (after r n space)) (sumZ (sharesOf a y) rs) (omega arith)

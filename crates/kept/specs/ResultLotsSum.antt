@@ -2,13 +2,14 @@
 -- sign, and what is left of the trade opens a lot of the trade's own. So the sum moves by the trade's shares. Assumes
 -- nothing.
 use mathlib.Core.Path.{_≡_, refl, sym, ap, _∙_}
-use mathlib.Core.Bool.{Bool, true, false, cond, not, _&&_}
+use mathlib.Core.Bool.{Bool, true, false, cond, not}
 use mathlib.Core.List.{List, [], _∷_, List·Memᴰ, List·Memᴰ·head, List·Memᴰ·tail}
 use Prim.Native.Nat.{ℕ, _+_, _-_, _≤_}
 use native.Mathlib.Omega.{arith}
 use lib.Dec.{eqb}
 use lib.IntN.{ℤ, pos, natAbs, _+ℤ_}
 use lib.Signed.{ltZ}
+use lib.ListN.{length}
 use borrow.Author.Tests.{eq-eqb, eqb-true, ltb-false, ltb-true, not-true}
 use mir.Syntax.{w64}
 use mir.Val.{toZ}
@@ -21,17 +22,17 @@ use Rattle.model.specs.Lots.{Closing, closes, size}
 use Rattle.model.specs.Money.{buys}
 use Rattle.model.specs.Names.{aSummary}
 use Rattle.model.specs.Result.{leftOf, signed}
-use Rattle.model.specs.Rows.{found, is, sameRow}
+use Rattle.model.specs.Rows.{found, is, nothing, sameRow}
 use Rattle.model.specs.Sound.{lotOf, sharesOf, short}
-use Rattle.result.specs.Own.{Read, Sums}
+use Rattle.result.specs.Own.{Read, Sums, added}
 use Rattle.result.specs.Rows.{reduced}
-use Rattle.kept.specs.ResultLotsLaw.{after, lots-law}
+use Rattle.kept.specs.ResultAfter.{after}
+use Rattle.kept.specs.ResultLotsLaw.{lots-law}
 use Rattle.kept.specs.ResultLotsSides.{add-sides, bits-tell, eq-sides, left-mine, left-short, left-size}
 use Rattle.kept.specs.ResultLotsSides.{left-yours, other-side, part, signed-mine, signed-short, signed-size}
 use Rattle.kept.specs.ResultLotsSides.{signed-yours, sum-sides, zero-sides}
 use Rattle.laws.specs.Total.{total-on, total-parts, total-zero}
-use Rattle.kept.specs.ResultLotsTotal.{allWrites, lotAfter, lotOpened}
-use Rattle.laws.specs.Puts.{Inside}
+use Rattle.kept.specs.ResultEach.{lotAfter, lotOpened}
 
 -- a lot that a trade closes: of its account and symbol and of the other sign, and some of its shares are taken
 pub record Closed (t : Row) (c : Closing) : Type 0 where
@@ -74,7 +75,7 @@ total-sum f g h (x ∷ l) e =
 
 module _ {rs : List Row} {t summary account broker : Row} {cs : List Closing}
     (r : Read rs t summary account broker cs) (n : Sums)
-    (inside : Inside sameRow (allWrites t summary account broker cs n) rs) (v : Walked rs t summary cs n) where
+    (space : length (added t summary cs n) ≤ count (sameRow nothing) rs) (v : Walked rs t summary cs n) where
   -- ---- the lots that come
   -- what is left of a lot
   module _ (c : Closing) (m : List·Memᴰ c cs) (e : reduced c ≡ true) where
@@ -118,10 +119,10 @@ module _ {rs : List Row} {t summary account broker : Row} {cs : List Closing}
   share-is : (x : Row) (z : ℤ) → lotOf (t .party) (t .symbol) x ≡ true → toZ w64 (x .m1) ≡ z → shareOf x ≡ z
   share-is x z e q = rw e q
 
-  pub sum-after : sumZ shareOf (after r n inside) ≡ sumZ shareOf rs +ℤ signed (t .form) (t .n1)
+  pub sum-after : sumZ shareOf (after r n space) ≡ sumZ shareOf rs +ℤ signed (t .form) (t .n1)
   sum-after =
-      let mine = lots-law r n inside (λ x. part d (shareOf x)) (off d) in
-      let yours = lots-law r n inside (λ x. part (not d) (shareOf x)) (off (not d)) in
+      let mine = lots-law r n space (λ x. part d (shareOf x)) (off d) in
+      let yours = lots-law r n space (λ x. part (not d) (shareOf x)) (off (not d)) in
       let m1 = total-zero (λ (c : Closing). part d (shareOf (c .lot))) cs (λ c m. lot-mine c m) in
       let m2 = opened (eqb (n .left) 0) refl in
       let m3 = total-zero (λ (c : Closing). part d (shareOf (lotAfter t c))) (keep reduced cs)
@@ -145,11 +146,11 @@ module _ {rs : List Row} {t summary account broker : Row} {cs : List Closing}
       in
       let all = v .all in
       let before = sum-sides d shareOf rs in
-      let now = sum-sides d shareOf (after r n inside) in
+      let now = sum-sides d shareOf (after r n space) in
       let add = add-sides d (sumZ shareOf rs) (signed (t .form) (t .n1)) in
       let s1 = signed-mine d (t .n1) in
       let s2 = signed-yours d (t .n1) in
-      eq-sides d (sumZ shareOf (after r n inside)) (sumZ shareOf rs +ℤ signed (t .form) (t .n1)) (omega arith)
+      eq-sides d (sumZ shareOf (after r n space)) (sumZ shareOf rs +ℤ signed (t .form) (t .n1)) (omega arith)
     where
       d : Bool
       d = buys (t .form)

@@ -1,36 +1,34 @@
 -- The summary of a trade's account and symbol after its result: it is the sum of the lots, and it goes where no lot is
 -- left. Those of others stay. Assumes nothing.
-use mathlib.Core.Path.{_≡_, refl, sym, ap, ap₂, _∙_}
-use mathlib.Core.Bool.{Bool, true, false, not, _&&_, false≢true}
+use mathlib.Core.Path.{_≡_, refl, sym, ap, _∙_}
+use mathlib.Core.Bool.{Bool, true, false, not, _&&_}
 use mathlib.Core.List.{List, [], _∷_, List·Memᴰ, List·Memᴰ·head, List·Memᴰ·tail}
-use mathlib.Core.Logic.{⊎-elim}
 use Prim.Native.Nat.{ℕ, _+_, _≤_}
 use native.Mathlib.Omega.{arith}
 use lib.Dec.{eqb}
 use lib.IntN.{ℤ, pos, _+ℤ_}
+use lib.ListN.{length}
 use borrow.Author.Tests.{eq-eqb, eqb-true}
 use mir.Syntax.{w64}
 use mir.Val.{toZ}
 use Rattle.laws.specs.Keep.{count-has}
-use Rattle.laws.specs.Search.{bit, count, sumZ, the, total}
+use Rattle.laws.specs.Search.{bit, count, sumZ, total}
 use Rattle.laws.specs.Tests.{and-left, and-right}
 use Rattle.record.specs.Codes.{kindFree, kindSummary}
 use Rattle.record.specs.Signed.{eq-parts, parts-add}
 use Rattle.record.specs.declared.row.Row.{Row}
 use Rattle.model.specs.Lots.{Closing, size}
 use Rattle.model.specs.Names.{aSummary}
-use Rattle.model.specs.Rows.{found, hasKey, is, nothing, sameRow, there}
+use Rattle.model.specs.Rows.{found, hasKey, is, nothing, sameRow}
 use Rattle.model.specs.Sound.{lotOf, sharesOf, short}
-use Rattle.shelf.specs.Put.{found-has, found-none}
+use Rattle.shelf.specs.Put.{found-has}
 use Rattle.tables.specs.Names.{by-holder, ofParty}
-use Rattle.result.specs.Apart.{found-kind, found-live}
-use Rattle.result.specs.Own.{Read, Sums}
-use Rattle.kept.specs.ResultLotsLaw.{after}
+use Rattle.result.specs.Apart.{found-live}
+use Rattle.result.specs.Own.{Read, Sums, added}
+use Rattle.kept.specs.ResultFresh.{no-summary, none-found}
 use Rattle.kept.specs.ResultLotsSides.{eq-sides, other-side, part, sum-sides, zero-sides}
 use Rattle.kept.specs.ResultLotsSum.{Walked, no-shares}
 use Rattle.laws.specs.Total.{total-zero}
-use Rattle.kept.specs.ResultLotsTotal.{allWrites}
-use Rattle.laws.specs.Puts.{Inside}
 
 pub not-not : (b : Bool) → not (not b) ≡ b
 not-not true = refl
@@ -115,7 +113,7 @@ has-holder a y x k p s =
 
 module _ {rs : List Row} {t summary account broker : Row} {cs : List Closing}
     (r : Read rs t summary account broker cs) (n : Sums)
-    (inside : Inside sameRow (allWrites t summary account broker cs n) rs) (v : Walked rs t summary cs n) where
+    (space : length (added t summary cs n) ≤ count (sameRow nothing) rs) (v : Walked rs t summary cs n) where
   abbrev own : Row → Bool
   own x = hasKey (aSummary (t .party) (t .symbol)) x
 
@@ -125,18 +123,7 @@ module _ {rs : List Row} {t summary account broker : Row} {cs : List Closing}
       let h : is kindFree (found (aSummary (t .party) (t .symbol)) rs) ≡ false = ap (is kindFree) (v .own) ∙ live in
       ap own (sym (v .own)) ∙ found-has (aSummary (t .party) (t .symbol)) rs (found-live rs _ h)
 
-  pub summary-gone : is kindFree summary ≡ true → there (aSummary (t .party) (t .symbol)) rs ≡ false
-  summary-gone free = go (there (aSummary (t .party) (t .symbol)) rs) refl
-    where
-      go : (b : Bool) → there (aSummary (t .party) (t .symbol)) rs ≡ b
-          → there (aSummary (t .party) (t .symbol)) rs ≡ false
-      go true e =
-          let q = ap (λ (x : Row). x .kind) (sym (v .own)) ∙ found-kind rs (aSummary (t .party) (t .symbol)) e in
-          let z : _≡_ {A = ℕ} kindSummary kindFree = sym q ∙ eqb-true (summary .kind) kindFree free in
-          absurd (omega arith)
-      go false e = e
-
   pub nothing-there : is kindFree summary ≡ true → toZ w64 (summary .m1) ≡ pos 0
   nothing-there free =
       ap (λ (x : Row). toZ w64 (x .m1))
-      (sym (v .own) ∙ found-none (aSummary (t .party) (t .symbol)) rs (summary-gone free))
+      (sym (v .own) ∙ none-found (aSummary (t .party) (t .symbol)) rs (no-summary r n (sym (v .own)) free))

@@ -1,182 +1,99 @@
--- The trades that lots name after a result: each that was completed is as it was, and the result's own is completed.
--- Assumes nothing.
+-- The lots and summaries after a result: each was there, or is of the trade's account and symbol; and the trade that a
+-- lot names is completed and of the lot's account and symbol. Assumes nothing.
 use mathlib.Core.Path.{_≡_, refl, sym, ap, subst, _∙_}
-use mathlib.Core.Bool.{Bool, true, false, _&&_, false≢true}
+use mathlib.Core.Bool.{true, false, _||_}
 use mathlib.Core.List.{List, List·Memᴰ}
-use mathlib.Core.Logic.{_⊎_, inl, inr, ⊎-elim}
-use Prim.Native.Nat.{ℕ, _+_, _≤_}
-use native.Mathlib.Omega.{arith}
+use mathlib.Core.Logic.{_⊎_, inl, inr}
+use Prim.Native.Nat.{ℕ, _≤_}
 use lib.Dec.{eqb}
-use borrow.Author.Tests.{eq-eqb, eqb-false, le-leb}
-use Rattle.laws.specs.Keep.{count-one, the-has}
-use Rattle.laws.specs.Place.{the-passes}
-use Rattle.laws.specs.Search.{bit, count, the}
-use Rattle.laws.specs.Tests.{and-both}
+use lib.ListN.{length}
+use borrow.Author.Tests.{eq-eqb, eqb-true}
+use Rattle.laws.specs.Search.{count}
+use Rattle.laws.specs.Tests.{or-left, or-right}
 use Rattle.record.specs.Codes.{completed, kindAccount, kindBroker, kindCash, kindFree, kindLot, kindLotHistory}
-use Rattle.record.specs.Codes.{kindSettlement, kindSummary, kindTrade, kindTradeHistory, submitted}
-use Rattle.record.specs.Key.{keyOf}
-use Rattle.record.specs.KeyLaws.{same-keys}
-use Rattle.record.specs.declared.key.Key.{Key}
+use Rattle.record.specs.Codes.{kindSettlement, kindSummary, kindTrade, kindTradeHistory}
 use Rattle.record.specs.declared.row.Row.{Row}
 use Rattle.model.specs.Lots.{Closing}
 use Rattle.model.specs.Names.{aTrade}
-use Rattle.model.specs.Rows.{found, hasKey, is, nothing, sameRow, there}
-use Rattle.model.specs.Sound.{lotOf}
-use Rattle.model.specs.SoundMeans.{means-sound}
-use Rattle.shelf.specs.Put.{found-has, found-none, row-itself, same-rows}
-use Rattle.tables.specs.Names.{by-id}
-use Rattle.result.specs.Apart.{found-kind, found-member, of-live, once}
-use Rattle.result.specs.Own.{Read, Sums, tradeWrite}
-use Rattle.kept.specs.ResultLotsLaw.{after, trades-law}
-use Rattle.kept.specs.ResultLotsNews.{News, all-news}
-use Rattle.kept.specs.ResultLotsSum.{Walked, opened-held}
-use Rattle.kept.specs.ResultLotsTotal.{allWrites}
-use Rattle.laws.specs.Puts.{Inside, is-counted, member, puts-origin}
-
--- ---- a row that is there is found by its key, where it is the only one
-pub found-is : (k : Key) (l : List Row) (x : Row) → List·Memᴰ x l → hasKey k x ≡ true → count (hasKey k) l ≡ 1
-    → found k l ≡ x
-unfolding found
-found-is k l x m e c =
-    let p = hasKey k in
-    let some = le-leb 1 (count p l) (omega arith) in
-    count-one p (the p nothing l) x l (omega arith) (the-has p nothing l some) m (the-passes p nothing l some) e
-
--- no row is of two kinds
-pub two-kinds : {A : Type 0} (i j : ℕ) → eqb i j ≡ false → i ≡ j → A
-two-kinds i j e h = absurd (eqb-false i j e h)
-
--- rows of different kinds are different
-pub other-row : (k : ℕ) (o x : Row) → o .kind ≡ k → is k x ≡ false → sameRow o x ≡ false
-other-row k o x e f = go (sameRow o x) refl
-  where
-    go : (b : Bool) → sameRow o x ≡ b → sameRow o x ≡ false
-    go true h =
-        absurd (eqb-false (x .kind) k f (ap (λ (y : Row). y .kind) (sym (same-rows o x h)) ∙ e))
-    go false h = h
+use Rattle.model.specs.Rows.{found, is, nothing, sameRow}
+use Rattle.result.specs.Own.{Read, Sums, added, brokerWrite, tradeWrite}
+use Rattle.result.specs.Rows.{holding}
+use Rattle.kept.specs.Cases.{no}
+use Rattle.kept.specs.ResultAfter.{after, after-each}
+use Rattle.kept.specs.ResultEach.{Each, cashOf, closingOf, each-write, historyOf, lotOpened, openingOf}
+use Rattle.kept.specs.ResultEach.{settlementOf}
+use Rattle.kept.specs.ResultFresh.{book, not-done}
+use Rattle.kept.specs.ResultLotsSigns.{lot-party, lot-symbol}
+use Rattle.kept.specs.ResultLotsSum.{Walked}
+use Rattle.kept.specs.ResultLotsSummary.{key-party, key-symbol, summary-own}
+use Rattle.kept.specs.ResultTrades.{trade-done, trade-other}
 
 module _ {rs : List Row} {t summary account broker : Row} {cs : List Closing}
     (r : Read rs t summary account broker cs) (n : Sums)
-    (inside : Inside sameRow (allWrites t summary account broker cs n) rs) where
-  -- a key that a row of the book has, it has alone
-  pub alone : (k : Key) (x : Row) → List·Memᴰ x rs → is kindFree x ≡ false → hasKey k x ≡ true → count (hasKey k) rs ≡ 1
-  unfolding hasKey
-  alone k x m live e =
-      ap (λ (j : Key). count (hasKey j) rs) (sym (same-keys (keyOf x) k e)) ∙ once rs (r .good) x m live
+    (space : length (added t summary cs n) ≤ count (sameRow nothing) rs) (v : Walked rs t summary cs n) where
+  abbrev Names : Row → Row → Type 0
+  Names l x = ((x .status ≡ completed) × (x .party ≡ l .party)) × (x .symbol ≡ l .symbol)
 
-  same-number : (i : ℕ) → hasKey (aTrade i) (tradeWrite t n .1) ≡ hasKey (aTrade i) t
-  same-number i = by-id kindTrade refl i (tradeWrite t n .1) ∙ sym (by-id kindTrade refl i t)
+  abbrev TradeRight : Row → Type 0
+  TradeRight l = Names l (found (aTrade (l .id)) (after r n space))
 
-  pub trades-kept : (i : ℕ) → count (hasKey (aTrade i)) (after r n inside) ≡ count (hasKey (aTrade i)) rs
-  unfolding count
-  trades-kept i =
-      let law = trades-law r n inside (λ x. bit (hasKey (aTrade i) x)) (λ x e. off x e) in
-      let e = ap bit (same-number i) in
-      omega arith
-    where
-      off : (x : Row) → is kindTrade x ≡ false → bit (hasKey (aTrade i) x) ≡ 0
-      off x e = rw (by-id kindTrade refl i x, e)
-
-  -- a trade that is completed is none that is submitted
-  apart : (o : Row) → o .status ≡ completed → sameRow o t ≡ false
-  apart o e = go (sameRow o t) refl
-    where
-      go : (b : Bool) → sameRow o t ≡ b → sameRow o t ≡ false
-      go true h =
-          let q : o .status ≡ t .status = ap (λ (y : Row). y .status) (same-rows o t h) in
-          let z : _≡_ {A = ℕ} completed submitted = sym e ∙ q ∙ r .t-status in
-          absurd (omega arith)
-      go false h = h
-
-  held-law : (o : Row) → o .kind ≡ kindTrade → o .status ≡ completed
-      → count (sameRow o) (after r n inside) ≡ count (sameRow o) rs + bit (sameRow o (tradeWrite t n .1))
-  unfolding count
-  held-law o k e =
-      let law = trades-law r n inside (λ x. bit (sameRow o x)) (λ x f. ap bit (other-row kindTrade o x k f)) in
-      let z = ap bit (apart o e) in
-      omega arith
-
-  pub old-trade : (i : ℕ) → found (aTrade i) rs .status ≡ completed
-      → found (aTrade i) (after r n inside) ≡ found (aTrade i) rs
-  old-trade i done = go (there (aTrade i) rs) refl
-    where
-      o : Row
-      o = found (aTrade i) rs
-
-      go : (b : Bool) → there (aTrade i) rs ≡ b → found (aTrade i) (after r n inside) ≡ o
-      go true e =
-          let m = found-member rs (aTrade i) e in
-          let k = found-kind rs (aTrade i) e in
-          let h = found-has (aTrade i) rs e in
-          let law = held-law o k done in
-          let was = is-counted sameRow same-rows row-itself o rs m in
-          let now = member sameRow same-rows row-itself o (after r n inside) (omega arith) in
-          found-is (aTrade i) (after r n inside) o now h
-          (trades-kept i ∙ alone (aTrade i) o m (of-live kindTrade o refl k) h)
-      go false e =
-          let z : _≡_ {A = ℕ} 0 completed = ap (λ (x : Row). x .status) (sym (found-none (aTrade i) rs e)) ∙ done in
-          absurd (omega arith)
-
-  pub new-trade : found (aTrade (t .id)) (after r n inside) ≡ tradeWrite t n .1
-  new-trade =
-      let o = tradeWrite t n .1 in
-      let law = held-law o (r .t-kind) refl in
-      let own = ap bit (row-itself o) in
-      let now = member sameRow same-rows row-itself o (after r n inside) (omega arith) in
-      let h : hasKey (aTrade (t .id)) t ≡ true =
-      by-id kindTrade refl (t .id) t
-      ∙ and-both (is kindTrade t) (eqb (t .id) (t .id)) (eq-eqb (t .kind) kindTrade (r .t-kind))
-      (eq-eqb (t .id) (t .id) refl)
-      in
-      found-is (aTrade (t .id)) (after r n inside) o now (same-number (t .id) ∙ h)
-      (trades-kept (t .id) ∙ alone (aTrade (t .id)) t (r .t-held) (of-live kindTrade t refl (r .t-kind)) h)
-
-  -- ---- the trade of a lot is completed and of its account and symbol
-  abbrev pub TradeRight : Row → Type 0
-  TradeRight l =
-      ((found (aTrade (l .id)) (after r n inside) .status ≡ completed)
-      × (found (aTrade (l .id)) (after r n inside) .party ≡ l .party))
-      × (found (aTrade (l .id)) (after r n inside) .symbol ≡ l .symbol)
-
-  -- of a lot that was there
-  pub old-right : (l : Row) → List·Memᴰ l rs → l .kind ≡ kindLot → TradeRight l
+  -- a lot's trade is completed, so that it is not the one that the result completes
+  old-right : (l : Row) → List·Memᴰ l rs → l .kind ≡ kindLot → TradeRight l
   old-right l m k =
-      let w = means-sound rs .shows (r .good) .s8 l m .0 k .0 .0 in
-      let e = old-trade (l .id) (w .0 .0) in
-      subst (λ (x : Row). ((x .status ≡ completed) × (x .party ≡ l .party)) × (x .symbol ≡ l .symbol)) (sym e) w
+      let w = book r n .s8 l m .0 k .0 .0 in
+      let other = trade-other r n (sym (v .own)) space (l .id) (λ q. not-done r n (l .id) q (w .0 .0)) in
+      subst (Names l) (sym other) w
 
-  module _ (v : Walked rs t summary cs n) where
-    -- a lot that comes
-    abbrev pub LotComes : Row → Type 0
-    LotComes x = x .kind ≡ kindLot → TradeRight x × (lotOf (t .party) (t .symbol) x ≡ true)
+  abbrev Held : Row → Type 0
+  Held x = List·Memᴰ x rs ⊎ ((x .party ≡ t .party) × (x .symbol ≡ t .symbol))
 
-    new-lots : News t summary account broker cs n LotComes
-    new-lots = record {
-      free = two-kinds kindFree kindLot refl;
-      closing = λ c m. two-kinds kindLotHistory kindLot refl;
-      left = λ c m e k.
-          let h = v .closed c m .held in
-          (old-right (c .lot) (r .c-held c m .0) (r .c-held c m .1), h);
-      opening = λ e. two-kinds kindLotHistory kindLot refl;
-      lot = λ e k. (
-        subst (λ (x : Row). ((x .status ≡ completed) × (x .party ≡ t .party)) × (x .symbol ≡ t .symbol))
-            (sym new-trade) ((refl, refl), refl),
-        opened-held r n inside v,
-      );
-      fresh = λ e. two-kinds kindSummary kindLot refl;
-      follows = λ e g k. two-kinds kindSummary kindLot refl (sym (r .s-held e .1) ∙ k);
-      done = two-kinds kindTradeHistory kindLot refl;
-      settled = two-kinds kindSettlement kindLot refl;
-      paid = two-kinds kindCash kindLot refl;
-      of-trade = λ k. two-kinds kindTrade kindLot refl (sym (r .t-kind) ∙ k);
-      of-account = λ k. two-kinds kindAccount kindLot refl (sym (r .a-kind) ∙ k);
-      of-broker = λ k. two-kinds kindBroker kindLot refl (sym (r .b-kind) ∙ k);
-    }
+  abbrev Origin : Row → Type 0
+  Origin x = (is kindLot x || is kindSummary x) ≡ true → Held x × (is kindLot x ≡ true → TradeRight x)
 
-    -- each lot was there, or came
-    pub lot-origin : (l : Row) → List·Memᴰ l (after r n inside) → l .kind ≡ kindLot
-        → (List·Memᴰ l rs ⊎ (lotOf (t .party) (t .symbol) l ≡ true)) × TradeRight l
-    lot-origin l m k =
-        ⊎-elim (λ o. (inl o, old-right l o k))
-        (λ o. let h = all-news new-lots l o k in (inr (h .1), h .0))
-        (puts-origin sameRow same-rows row-itself (allWrites t summary account broker cs n) rs inside l m)
+  other : (j : ℕ) (x : Row) → x .kind ≡ j → (eqb j kindLot || eqb j kindSummary) ≡ false → Origin x
+  other j x k e h = no (ap (λ (i : ℕ). eqb i kindLot || eqb i kindSummary) k ∙ e) h
+
+  come : Each t summary account broker cs n (λ (w : Row × Row). Origin (w .1))
+  come = record {
+    closed = λ c m. other kindLotHistory (closingOf t c) refl refl;
+    opened = λ z. other kindLotHistory (openingOf t n) refl refl;
+    lot = λ z h. (
+      inr (refl, refl),
+      λ k. subst (Names (lotOpened t n)) (sym (trade-done r n (sym (v .own)) space)) ((refl, refl), refl),
+    );
+    begun = λ z h. (inr (refl, refl), λ k. no refl k);
+    history = other kindTradeHistory (historyOf t n) refl refl;
+    settled = other kindSettlement (settlementOf t n) refl refl;
+    paid = λ z. other kindCash (cashOf t n) refl refl;
+    less = λ c m z h.
+        let l = r .c-held c m in
+        let e = v .closed c m .held in (
+          inr (lot-party (t .party) (t .symbol) (c .lot) e, lot-symbol (t .party) (t .symbol) (c .lot) e),
+          λ k. old-right (c .lot) (l .0) (l .1),
+        );
+    summed = λ z g h.
+        let e = summary-own r n space v z in (
+          inr (key-party (t .party) (t .symbol) summary e, key-symbol (t .party) (t .symbol) summary e),
+          λ k. no (ap (λ (i : ℕ). eqb i kindLot) (r .s-held z .1)) k,
+        );
+    balanced = other kindAccount (holding account (n .balance)) (r .a-kind) refl;
+    trade = other kindTrade (tradeWrite t n .1) (r .t-kind) refl;
+    gained = other kindBroker (brokerWrite broker n .1) (r .b-kind) refl;
+    freed = λ c m. other kindFree nothing refl refl;
+    emptied = λ z. other kindFree nothing refl refl;
+  }
+
+  origin : (x : Row) → List·Memᴰ x (after r n space) → Origin x
+  origin =
+      after-each r n space Origin (λ x m h. (inl m, λ k. old-right x m (eqb-true (x .kind) kindLot k)))
+      (each-write r n (λ (w : Row × Row). Origin (w .1)) come)
+
+  pub lot-origin : (l : Row) → List·Memᴰ l (after r n space) → l .kind ≡ kindLot → Held l × TradeRight l
+  lot-origin l m k =
+      let e = eq-eqb (l .kind) kindLot k in
+      let o = origin l m (or-left (is kindLot l) (is kindSummary l) e) in
+      (o .0, o .1 e)
+
+  pub summary-origin : (s : Row) → List·Memᴰ s (after r n space) → s .kind ≡ kindSummary → Held s
+  summary-origin s m k =
+      origin s m (or-right (is kindLot s) (is kindSummary s) (eq-eqb (s .kind) kindSummary k)) .0

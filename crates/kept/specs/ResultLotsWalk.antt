@@ -31,7 +31,7 @@ use Rattle.result.specs.Apart.{all-closings}
 use Rattle.result.specs.Posted.{reads, sumsOf}
 use Rattle.result.specs.Rows.{reduced}
 use Rattle.result.specs.Summary.{summary-fits}
-use Rattle.kept.specs.ResultLotsHeld.{some-size}
+use Rattle.kept.specs.ResultLots.{some-size}
 use Rattle.kept.specs.ResultLotsSides.{iff-one}
 use Rattle.kept.specs.ResultLotsSigns.{lot-kind}
 use Rattle.kept.specs.ResultLotsSum.{Closed, Walked}

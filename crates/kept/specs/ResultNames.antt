@@ -2,7 +2,7 @@
 -- nothing.
 use mathlib.Core.Path.{_≡_, refl, sym, ap, subst, _∙_}
 use mathlib.Core.Bool.{Bool, true, false, cond, not, _&&_, false≢true}
-use mathlib.Core.List.{List, [], _∷_, List·Memᴰ, List·Memᴰ·head, List·Memᴰ·tail}
+use mathlib.Core.List.{List, [], _∷_, List·Memᴰ, List·Memᴰ·head}
 use Prim.Native.Nat.{ℕ, zero, suc, _≤_}
 use native.Mathlib.Omega.{arith}
 use lib.Dec.{eqb}
@@ -12,23 +12,22 @@ use Rattle.laws.specs.All.{All, all-more, all-none, all-one}
 use Rattle.laws.specs.Keep.{count-has}
 use Rattle.laws.specs.Search.{count, every, means-every, total}
 use Rattle.laws.specs.Tests.{and-left, and-right}
-use Rattle.record.specs.Codes.{kindBand, kindBroker, kindCustomerRate, kindFree, kindLot, kindLotHistory}
-use Rattle.record.specs.Codes.{kindCustomer, kindSummary, kindTrade}
+use Rattle.record.specs.Codes.{kindBand, kindBroker, kindCustomer, kindCustomerRate, kindFree, kindLot, kindLotHistory}
+use Rattle.record.specs.Codes.{kindSummary, kindTrade}
 use Rattle.record.specs.declared.key.Key.{Key}
 use Rattle.record.specs.declared.row.Row.{Row}
 use Rattle.model.specs.Lots.{Closing}
 use Rattle.model.specs.Names.{aSecurity, aTaxRate, aTrade, anAccount, named, names}
-use Rattle.model.specs.Result.{leftOf}
 use Rattle.model.specs.Rows.{found, hasKey, is, nothing, sameRow}
 use Rattle.model.specs.Sound.{overlaps, ratesOf}
 use Rattle.model.specs.SoundMeans.{S3, S4, S5, There}
 use Rattle.tables.specs.Found.{own-number}
 use Rattle.result.specs.Apart.{names-account, names-broker}
 use Rattle.result.specs.Own.{Read, Sums, added, brokerWrite, tradeWrite}
-use Rattle.result.specs.Rows.{holding, summedShares}
+use Rattle.result.specs.Rows.{holding}
 use Rattle.kept.specs.ResultAfter.{after, after-each, key-stays, quiet-count, still, still-found, still-sum}
 use Rattle.kept.specs.ResultAfter.{still-was}
-use Rattle.kept.specs.ResultEach.{Aside, Each, each-write}
+use Rattle.kept.specs.ResultEach.{Aside, Each, each-write, lotAfter, summaryAfter}
 use Rattle.kept.specs.ResultFresh.{book}
 
 -- ---- what a row names is no lot, no summary and no lot history
@@ -118,19 +117,19 @@ module _ {rs : List Row} {t summary account broker : Row} {cs : List Closing}
   unfolding named
   come-named = record {
     closed = λ c m. all-more P _ _ (of-lot c m) (all-one P _ own-trade);
-    opened = all-more P _ _ own-trade (all-one P _ own-trade);
-    lot = all-more P _ _ own-trade of-trade;
+    opened = λ z. all-more P _ _ own-trade (all-one P _ own-trade);
+    lot = λ z. all-more P _ _ own-trade of-trade;
     begun = λ z. of-trade;
     history = all-one P _ own-trade;
     settled = all-one P _ own-trade;
     paid = λ z. all-one P _ own-trade;
-    less = λ c m.
+    less = λ c m z.
         let h = r .c-held c m in
-        let x = holding (c .lot) (leftOf (t .form) c) in
+        let x = lotAfter t c in
         alike (c .lot) x (h .0) (names-lot x (h .1) ∙ sym (names-lot (c .lot) (h .1)));
-    summed = λ z.
+    summed = λ z g.
         let h = r .s-held z in
-        let x = holding summary (summedShares t summary) in
+        let x = summaryAfter t summary in
         alike summary x (h .0) (names-summary x (h .1) ∙ sym (names-summary summary (h .1)));
     balanced =
         let x = holding account (n .balance) in

@@ -22,13 +22,14 @@ use Rattle.model.specs.SoundMeans.{Each, S9}
 use Rattle.tables.specs.Found.{own-number}
 use Rattle.result.specs.Apart.{key-kind}
 use Rattle.result.specs.Own.{Read, Sums, added}
+use Rattle.kept.specs.Cases.{no}
 use Rattle.kept.specs.ResultAfter.{after-each, after-fewer, quiet-count, quiet-found}
 use Rattle.kept.specs.ResultBase.{all}
 use Rattle.kept.specs.ResultEach.{by-kind, cashOf, settlementOf}
 use Rattle.kept.specs.ResultFresh.{book, found-one, no-cash, no-settlement, one-key}
 use Rattle.laws.specs.Puts.{Fewer, Quiet}
-use Rattle.kept.specs.ResultTrades.{cash-comes, done, each-trade, left, no, others, settlement-comes}
-use Rattle.kept.specs.ResultTrades.{trade-done, trade-other, unique}
+use Rattle.kept.specs.ResultTrades.{cash-comes, each-trade, left, others, settlement-comes, trade-done}
+use Rattle.kept.specs.ResultTrades.{trade-other, unique}
 
 flag-bit : (b : Bool) → cond b 1 0 ≡ bit b
 flag-bit true = refl

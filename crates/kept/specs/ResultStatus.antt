@@ -19,7 +19,6 @@ use Rattle.record.specs.declared.key.Key.{Key}
 use Rattle.record.specs.declared.row.Row.{Row}
 use Rattle.model.specs.Lots.{Closing}
 use Rattle.model.specs.Names.{aHistory, aRequest, aSummary, aTrade, anAccount}
-use Rattle.model.specs.Result.{leftOf}
 use Rattle.model.specs.Rows.{found, hasKey, is, nothing, sameRow, there}
 use Rattle.model.specs.Sound.{agrees, higher}
 use Rattle.model.specs.SoundMeans.{S10, S6, S7}
@@ -27,13 +26,14 @@ use Rattle.shelf.specs.Put.{found-has}
 use Rattle.tables.specs.Names.{by-party, ofId}
 use Rattle.result.specs.Apart.{found-member, key-kind, own-key}
 use Rattle.result.specs.Own.{Read, Sums, added, brokerWrite, tradeWrite}
-use Rattle.result.specs.Rows.{holding, summedShares}
+use Rattle.result.specs.Rows.{holding}
+use Rattle.kept.specs.Cases.{no}
 use Rattle.kept.specs.ResultAfter.{Still, after-each, after-fewer, key-stays, quiet-count, quiet-found, still}
-use Rattle.kept.specs.ResultEach.{Each, by-kind, cashOf, each-write, historyOf, lotOf, settlementOf}
-use Rattle.kept.specs.ResultEach.{summaryOf}
+use Rattle.kept.specs.ResultEach.{Each, by-kind, cashOf, each-write, historyOf, lotAfter, lotOpened}
+use Rattle.kept.specs.ResultEach.{settlementOf, summaryAfter, summaryOpened}
 use Rattle.kept.specs.ResultFresh.{book, found-one}
 use Rattle.laws.specs.Puts.{Fewer, Quiet, count-less}
-use Rattle.kept.specs.ResultTrades.{done, done-now, done-stays, each-trade, history-comes, left, no}
+use Rattle.kept.specs.ResultTrades.{done, done-now, done-stays, each-trade, history-comes, left}
 
 module _ {rs : List Row} {t summary account broker : Row} {cs : List Closing}
     (r : Read rs t summary account broker cs) (n : Sums)
@@ -210,14 +210,14 @@ module _ {rs : List Row} {t summary account broker : Row} {cs : List Closing}
         closed = λ c m k.
             let h = r .c-held c m in
             (done-stays r n s-own space (c .lot .id) (book r n .s8 (c .lot) (h .0) .0 (h .1) .0 .0 .0 .0), mine);
-        opened = λ k. (mine, mine);
-        lot = other kindLot refl (lotOf t n) refl;
-        begun = λ z. other kindSummary refl (summaryOf t summary) refl;
+        opened = λ z k. (mine, mine);
+        lot = λ z. other kindLot refl (lotOpened t n) refl;
+        begun = λ z. other kindSummary refl (summaryOpened t summary) refl;
         history = other kindTradeHistory refl (historyOf t n) refl;
         settled = other kindSettlement refl (settlementOf t n) refl;
         paid = λ z. other kindCash refl (cashOf t n) refl;
-        less = λ c m. other kindLot refl (holding (c .lot) (leftOf (t .form) c)) (r .c-held c m .1);
-        summed = λ z. other kindSummary refl (holding summary (summedShares t summary)) (r .s-held z .1);
+        less = λ c m z. other kindLot refl (lotAfter t c) (r .c-held c m .1);
+        summed = λ z g. other kindSummary refl (summaryAfter t summary) (r .s-held z .1);
         balanced = other kindAccount refl (holding account (n .balance)) (r .a-kind);
         trade = other kindTrade refl (tradeWrite t n .1) (r .t-kind);
         gained = other kindBroker refl (brokerWrite broker n .1) (r .b-kind);

@@ -1,9 +1,9 @@
 -- The trade of a result after it is done, and the other trades: each is found by its number as it was, and this one
 -- completed. Assumes nothing.
 use mathlib.Core.Path.{_≡_, refl, sym, ap, subst, _∙_}
-use mathlib.Core.Bool.{Bool, true, false, false≢true}
-use mathlib.Core.List.{List, [], _∷_, _++_, List·Memᴰ, List·Memᴰ·head, List·Memᴰ·tail}
-use mathlib.Core.List.{Memᴰ·append-left, Memᴰ·append-right}
+use mathlib.Core.Bool.{Bool, true, false}
+use mathlib.Core.List.{List, [], _∷_, _++_, List·Memᴰ, List·Memᴰ·head, List·Memᴰ·tail, Memᴰ·append-left}
+use mathlib.Core.List.{Memᴰ·append-right}
 use Prim.Native.Nat.{ℕ, _≤_}
 use native.Mathlib.Omega.{arith}
 use lib.Dec.{eqb}
@@ -23,18 +23,17 @@ use Rattle.model.specs.SoundMeans.{Each, S2}
 use Rattle.tables.specs.Found.{own-number}
 use Rattle.tables.specs.Names.{by-id, idKinds}
 use Rattle.result.specs.Apart.{key-kind}
-use Rattle.result.specs.Own
 use Rattle.result.specs.Own.{Read, Sums, added, brokerWrite, tradeWrite}
 use Rattle.result.specs.Place.{frees}
 use Rattle.result.specs.Rows.{accountChanges, closedLots, closingRows, finalRows, lotChanges, openingRows}
 use Rattle.result.specs.Rows.{summaryChanges, summaryGone, summaryRows}
-use Rattle.kept.specs.Posted.{adds}
-use Rattle.kept.specs.ResultAfter.{after, after-comes, after-each, quiet-found}
+use Rattle.kept.specs.Cases.{no, not-so}
+use Rattle.kept.specs.ResultAfter.{added-comes, after, after-each, quiet-found, turned-comes}
 use Rattle.kept.specs.ResultBase.{all}
 use Rattle.kept.specs.ResultEach.{Aside, by-kind, cashOf, historyOf, settlementOf}
 use Rattle.kept.specs.ResultFresh.{found-one}
 use Rattle.kept.specs.ResultKeys.{keys-left}
-use Rattle.laws.specs.Puts.{Quiet, mem-map}
+use Rattle.laws.specs.Puts.{Quiet}
 
 -- ---- rows of a number
 pub number-is : (k : ℕ) → among k idKinds ≡ true → (i : ℕ) (x : Row) → hasKey (byId k i) x ≡ true → x .id ≡ i
@@ -43,14 +42,7 @@ number-is k known i x e =
 
 pub other-number : (k : ℕ) → among k idKinds ≡ true → (i : ℕ) (x : Row) → (x .id ≡ i → ⊥)
     → hasKey (byId k i) x ≡ false
-other-number k known i x ne = go (hasKey (byId k i) x) refl
-  where
-    go : (b : Bool) → hasKey (byId k i) x ≡ b → hasKey (byId k i) x ≡ false
-    go true e = absurd (ne (number-is k known i x e))
-    go false e = e
-
-pub no : {X : Type 0} {b : Bool} → b ≡ false → b ≡ true → X
-no e h = absurd (false≢true (sym e ∙ h))
+other-number k known i x ne = not-so (hasKey (byId k i) x) (λ e. ne (number-is k known i x e))
 
 module _ {rs : List Row} {t summary account broker : Row} {cs : List Closing}
     (r : Read rs t summary account broker cs) (n : Sums)
@@ -66,10 +58,7 @@ module _ {rs : List Row} {t summary account broker : Row} {cs : List Closing}
   comes : (h : Row) → List·Memᴰ h (finalRows t (n .amount) (n .time)) → List·Memᴰ h left
   comes h m =
       let h123 = closingRows t cs ++ openingRows t (n .price) (n .left) (n .time) ++ summaryRows t summary in
-      let hs = added t summary cs n in
-      after-comes r n space (nothing, h)
-      (Memᴰ·append-left (Own.writes t summary account broker cs n)
-      (mem-map (λ (x : Row). (nothing, x)) h hs (Memᴰ·append-right h123 m)))
+      added-comes r n space h (Memᴰ·append-right h123 m)
 
   pub history-comes : List·Memᴰ (historyOf t n) left
   history-comes = comes (historyOf t n) (List·Memᴰ·head refl)
@@ -90,9 +79,8 @@ module _ {rs : List Row} {t summary account broker : Row} {cs : List Closing}
       let w3 = accountChanges t account (n .balance) in
       let w5 = brokerWrite broker n ∷ [] in
       let w6 = frees (closedLots cs ++ summaryGone t summary) in
-      after-comes r n space (tradeWrite t n)
-      (Memᴰ·append-right (adds (added t summary cs n))
-      (Memᴰ·append-left w6 (Memᴰ·append-left w5 (Memᴰ·append-right (w1 ++ w2 ++ w3) (List·Memᴰ·head refl)))))
+      turned-comes r n space (tradeWrite t n)
+      (Memᴰ·append-left w6 (Memᴰ·append-left w5 (Memᴰ·append-right (w1 ++ w2 ++ w3) (List·Memᴰ·head refl))))
 
   -- ---- what a number finds
   pub trade-done : found (aTrade (t .id)) left ≡ done
@@ -115,11 +103,7 @@ module _ {rs : List Row} {t summary account broker : Row} {cs : List Closing}
       p = hasKey (byId k i)
 
       free : p nothing ≡ false
-      free = go (p nothing) refl
-        where
-          go : (x : Bool) → p nothing ≡ x → p nothing ≡ false
-          go true e = absurd (eqb-false kindFree k (a .0) (key-kind (byId k i) nothing e))
-          go false e = e
+      free = not-so (p nothing) (λ e. eqb-false kindFree k (a .0) (key-kind (byId k i) nothing e))
 
   pub trade-other : (i : ℕ) → (t .id ≡ i → ⊥) → found (aTrade i) left ≡ found (aTrade i) rs
   trade-other i ne =
