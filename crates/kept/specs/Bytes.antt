@@ -21,12 +21,12 @@ use Rattle.rules.specs.Meaning.{means-account, means-band, means-broker, means-
 use Rattle.rules.specs.Meaning.{means-customer-rate, means-free, means-lot, means-lot-history, means-request}
 use Rattle.rules.specs.Meaning.{means-security, means-settlement, means-summary, means-tax-rate, means-trade}
 use Rattle.rules.specs.Meaning.{means-trade-history}
-use Rattle.rules.specs.Ranges.{_⋯_, Range, any32, any64, values}
-use Rattle.rules.specs.Rules.{accountLimits, bandLimits, brokerLimits, cashLimits, chargeLimits, customerLimits}
-use Rattle.rules.specs.Rules.{customerRateLimits, fits, freeLimits, lotHistoryLimits, lotLimits, requestLimits, rules}
-use Rattle.rules.specs.Rules.{securityLimits, settlementLimits, summaryLimits, taxRateLimits, tradeHistoryLimits}
-use Rattle.rules.specs.Rules.{account, band, broker, cash, charge, customer, customerRate, free, lot, lotHistory}
-use Rattle.rules.specs.Rules.{request, security, settlement, summary, taxRate, trade, tradeHistory, tradeLimits}
+use Rattle.rules.specs.Ranges.{Range, _⋯_, any32, any64, values}
+use Rattle.rules.specs.Rules.{account, accountLimits, band, bandLimits, broker, brokerLimits, cash, cashLimits, charge}
+use Rattle.rules.specs.Rules.{chargeLimits, customer, customerLimits, customerRate, customerRateLimits, fits, free}
+use Rattle.rules.specs.Rules.{freeLimits, lot, lotHistory, lotHistoryLimits, lotLimits, request, requestLimits, rules}
+use Rattle.rules.specs.Rules.{security, securityLimits, settlement, settlementLimits, summary, summaryLimits, taxRate}
+use Rattle.rules.specs.Rules.{taxRateLimits, trade, tradeHistory, tradeHistoryLimits, tradeLimits}
 use Rattle.model.specs.Rows.{bytes, recordSize, rows, sameRow}
 use Rattle.model.specs.Sound.{s1}
 

@@ -32,8 +32,7 @@ use Rattle.kept.specs.FeedCalm.{sent-key, sweep, sweep-either, swept-few
 use Rattle.kept.specs.FeedLaws.{all-put, put-has}
 use Rattle.kept.specs.FeedSteps.{Keeps, Leads, Sends, Trades, afterSend, afterTrade, historyFor, sent}
 use Rattle.kept.specs.ResultFresh.{not-yet, one-key}
-use Rattle.laws.specs.Puts.{count-less}
-use Rattle.laws.specs.Puts.{is-counted, put-total}
+use Rattle.laws.specs.Puts.{count-less, is-counted, put-total}
 
 -- no key is there twice
 abbrev pub Keys : List Row → Type 0

@@ -1,10 +1,10 @@
 -- A feed that is done leaves S6: a trade that is pending then was pending before, and its request still waits; a
 -- request whose trade is not pending leaves the book. Assumes nothing.
 use mathlib.Core.Path.{_≡_, refl, sym, ap, subst, _∙_}
-use mathlib.Core.Bool.{Bool, true, false, not, _&&_, false≢true}
+use mathlib.Core.Bool.{Bool, true, false, not, _&&_}
 use mathlib.Core.List.{List, List·Memᴰ}
 use mathlib.Core.Logic.{⊎-elim}
-use Prim.Native.Nat.{ℕ, _≤_}
+use Prim.Native.Nat.{ℕ}
 use native.Mathlib.Omega.{arith}
 use lib.Dec.{eqb}
 use borrow.Author.Tests.{eq-eqb, ne-eqb}
@@ -17,27 +17,18 @@ use Rattle.record.specs.declared.row.Row.{Row}
 use Rattle.model.specs.Feed.{swept, traded, waits}
 use Rattle.model.specs.Names.{aRequest, aTrade, anAccount}
 use Rattle.model.specs.Rows.{found, hasKey, is, nothing, sameRow}
-use Rattle.model.specs.Sound.{agrees}
 use Rattle.model.specs.SoundMeans.{S6, SoundBook}
 use Rattle.shelf.specs.Put.{same-rows}
 use Rattle.tables.specs.Found.{own-number}
-use Rattle.feed.specs.Steps.{key-of}
+use Rattle.feed.specs.Steps.{OfKind, key-of}
 use Rattle.result.specs.Apart.{key-kind}
+use Rattle.kept.specs.Looks.{agrees-not, agrees-of, agreesBy}
 use Rattle.kept.specs.FeedCalm.{passes-steps, sweep, sweep-either}
 use Rattle.kept.specs.FeedKeys.{fed-keys}
 use Rattle.kept.specs.FeedRest.{same-found}
 use Rattle.kept.specs.FeedSteps.{Leads, historyFor, sent}
 use Rattle.laws.specs.Puts.{count-no, the-one}
 use Rattle.kept.specs.ResultTrades.{number-is}
-
--- a request that agrees with a trade of an account with this broker
-abbrev agreesBy : ℕ → Row → Row → Bool
-agreesBy broker t r =
-    hasKey (aRequest (t .id)) r && eqb (r .form) (t .form) && eqb (r .symbol) (t .symbol) && eqb (r .n1) (t .n1)
-    && eqb (r .n2) (t .n2) && eqb (r .party) broker
-
-agrees-not : (broker : ℕ) (t r : Row) → hasKey (aRequest (t .id)) r ≡ false → agreesBy broker t r ≡ false
-agrees-not broker t r e = rw e
 
 module _ {rs m : List Row} (book : SoundBook rs) (lead : Leads rs m) where
   -- ---- trades
@@ -61,7 +52,7 @@ module _ {rs m : List Row} (book : SoundBook rs) (lead : Leads rs m) where
       (λ x i k w. i)
 
   -- ---- tests that only requests pass are counted alike until the sweep
-  requests-same : (p : Row → Bool) → ((r : Row) → (r .kind ≡ kindRequest → ⊥) → p r ≡ false) → count p m ≡ count p rs
+  requests-same : (p : Row → Bool) → OfKind kindRequest p → count p m ≡ count p rs
   requests-same p of =
       lead (λ (l : List Row). count p l ≡ count p rs)
       (record {
@@ -138,7 +129,7 @@ module _ {rs m : List Row} (book : SoundBook rs) (lead : Leads rs m) where
         let p = agreesBy broker x in
         count-map p (sweep m) m
         ∙ count-on (λ r. p (sweep m r)) p m (λ r j. go r (asked r) refl)
-        ∙ requests-same p (λ r n. agrees-not broker x r (key-of (aRequest (x .id)) r n))
+        ∙ requests-same p (agrees-of broker x)
       where
         go : (r : Row) (b : Bool) → asked r ≡ b → agreesBy broker x (sweep m r) ≡ agreesBy broker x r
         go r true y = ap (agreesBy broker x) (asked-stays w r y)

@@ -1,27 +1,26 @@
 -- A feed that is done leaves S3, S4, S5, S8, S9 and S10: what these rules look at is not touched, but for the status of
 -- trades that are pending and the history rows that name them. Assumes nothing.
 use mathlib.Core.Path.{_≡_, refl, sym, ap, subst, _∙_}
-use mathlib.Core.Bool.{Bool, true, false, not, _&&_, false≢true}
-use mathlib.Core.List.{List, [], _∷_, List·Memᴰ, List·Memᴰ·not-nil}
-use Prim.Native.Nat.{ℕ, _≤_}
+use mathlib.Core.Bool.{Bool, true, false, not, false≢true}
+use mathlib.Core.List.{List, [], List·Memᴰ, List·Memᴰ·not-nil}
+use Prim.Native.Nat.{ℕ}
 use native.Mathlib.Omega.{arith}
 use lib.Dec.{eqb}
 use lib.IntN.{pos}
 use borrow.Author.Tests.{eq-eqb, eqb-true, ne-eqb, not-true}
 use Rattle.laws.specs.All.{All, all-one}
 use Rattle.laws.specs.Keep.{count-has}
-use Rattle.laws.specs.Search.{bit, count, every, means-every, total}
+use Rattle.laws.specs.Search.{bit, count, every, means-every}
 use Rattle.record.specs.Codes.{completed, kindBand, kindCash, kindCustomer, kindCustomerRate, kindFree, kindLot}
-use Rattle.record.specs.Codes.{kindLotHistory, kindSecurity, kindSettlement, kindSummary, kindTrade}
-use Rattle.record.specs.Codes.{pending}
+use Rattle.record.specs.Codes.{kindLotHistory, kindSecurity, kindSettlement, kindSummary, kindTrade, pending}
 use Rattle.record.specs.Key.{among}
 use Rattle.record.specs.declared.key.Key.{Key}
 use Rattle.record.specs.declared.row.Row.{Row}
 use Rattle.model.specs.Feed.{swept, traded}
 use Rattle.model.specs.Flags.{cash}
 use Rattle.model.specs.Names.{aCash, aSettlement, aSummary, aTaxRate, aTrade, named, names}
-use Rattle.model.specs.Rows.{found, hasKey, is, nothing}
-use Rattle.model.specs.Sound.{lotOf, otherSign, overlaps, ratesOf, sharesOf}
+use Rattle.model.specs.Rows.{found, hasKey, nothing}
+use Rattle.model.specs.Sound.{lotOf, otherSign, overlaps, sharesOf}
 use Rattle.model.specs.SoundMeans.{Each, LotRight, S10, S3, S4, S5, S8, S9, SoundBook, SummaryRight, There}
 use Rattle.tables.specs.Found.{own-number}
 use Rattle.feed.specs.Steps.{key-of}
@@ -29,7 +28,8 @@ use Rattle.result.specs.Apart.{names-account}
 use Rattle.kept.specs.FeedCalm.{calm-count, calm-key, calm-kind, calm-sum, calm-total, each-stays, finds-same}
 use Rattle.kept.specs.FeedCalm.{moving, passes-all, touched, untouched}
 use Rattle.kept.specs.FeedSteps.{Leads, sent}
-use Rattle.kept.specs.ResultNames.{every-or, rateBy}
+use Rattle.kept.specs.ResultNames.{every-or}
+use Rattle.kept.specs.Looks.{rates-alike}
 
 -- ---- what a row names is no history and no request
 named-stays : (x : Row) (k : Key) → List·Memᴰ k (named x) → among (k .kind) moving ≡ false
@@ -130,18 +130,13 @@ module _ {rs m : List Row} (book : SoundBook rs) (lead : Leads rs m) where
       ∙ each-stays kindBand refl lead (λ (y : Row). count (overlaps y) rs ≡ 1) (book .s4) x i k
 
   -- ---- S5
-  rates-same : (customer : ℕ) → ratesOf (swept m) customer ≡ ratesOf rs customer
-  unfolding ratesOf
-  rates-same customer =
-      let same : (n : ℕ) → found (aTaxRate n) (swept m) ≡ found (aTaxRate n) rs = λ n. same-found (aTaxRate n) refl in
-      let f = rateBy (λ n. found (aTaxRate n) rs .n1) customer in
-      ap (λ (g : ℕ → ℕ). total (rateBy g customer) (swept m)) (λ i n. same n i .n1)
-      ∙ calm-total lead f (calm-kind kindCustomerRate refl f 0 (λ x n. rw (ne-eqb (x .kind) kindCustomerRate n)))
-
   pub s5-feed : S5 (swept m)
   s5-feed x i k =
       let was = each-stays kindCustomer refl lead _ (book .s5) x i k in
-      let same = rates-same (x .party) in
+      let same =
+      rates-alike (swept m) rs (λ i. same-found (aTaxRate i) refl)
+      (λ μ none. calm-total lead μ (calm-kind kindCustomerRate refl μ 0 none)) (x .party)
+      in
       omega arith
 
   -- ---- S8

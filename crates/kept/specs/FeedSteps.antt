@@ -29,9 +29,8 @@ use Rattle.feed.specs.Pending.{pends, pends-submits}
 use Rattle.feed.specs.Steps.{key-of, submits-keep, traded-keeps}
 use Rattle.feed.specs.Volumes.{there-next, volume-after, volume-next}
 use Rattle.result.specs.Apart.{found-kind}
-use Rattle.laws.specs.Puts.{count-less}
+use Rattle.laws.specs.Puts.{count-less, put-total}
 use Rattle.kept.specs.ResultTrades.{number-is}
-use Rattle.laws.specs.Puts.{put-total}
 
 -- the history row of a trade that an entry submits, and the trade then
 abbrev pub historyFor : Row → ℕ → Row

@@ -15,9 +15,9 @@ use Rattle.record.specs.declared.row.Row.{Row}
 use Rattle.model.specs.Rows.{nothing, sameRow}
 use Rattle.shelf.specs.Put.{row-itself, same-rows}
 use Rattle.kept.specs.Posted.{adds}
-use Rattle.laws.specs.Puts.{Quiet, count-length, count-no, each-row, has-come, mem-map, the-puts}
+use Rattle.laws.specs.Puts.{Inside, Quiet, count-length, count-no, each-row, has-come, mem-map, news, olds, puts-count}
+use Rattle.laws.specs.Puts.{puts-total, the-puts}
 use Rattle.laws.specs.Total.{total-map, total-zero}
-use Rattle.laws.specs.Puts.{Inside, news, olds, puts-count, puts-total}
 
 -- the rows with others added
 abbrev pub grown : List Row → List Row → List Row

@@ -9,8 +9,8 @@ use lib.Dec.{leb}
 use Rattle.record.specs.Codes.{kindAccount, kindRequest, kindTrade, kindTradeHistory, pending, submitted, tms}
 use Rattle.record.specs.declared.row.Row.{Row}
 use Rattle.rules.specs.Meaning.{Fits, OrderInput, means-account, means-fits, means-order-input}
-use Rattle.rules.specs.Ranges.{_⋯_, charged, fee, flags, form, id, m1, m2, n1, n2, n3, n4, party, price, priceMost}
-use Rattle.rules.specs.Ranges.{any64, number, shares, status, symbol, time, tradeFlags, tradeNumber, tradeStatus}
+use Rattle.rules.specs.Ranges.{_⋯_, any64, charged, fee, flags, form, id, m1, m2, n1, n2, n3, n4, number, party, price}
+use Rattle.rules.specs.Ranges.{priceMost, shares, status, symbol, time, tradeFlags, tradeNumber, tradeStatus}
 use Rattle.rules.specs.Ranges.{tradeType, when}
 use Rattle.rules.specs.Rules.{as-kind}
 use Rattle.model.specs.Names.{anAccount}

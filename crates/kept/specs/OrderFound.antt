@@ -1,25 +1,24 @@
 -- An order that is taken leaves S8, S9 and S10: all that was there finds the trades that it found, and the trade that
 -- comes is not settled. Assumes nothing.
 use mathlib.Core.Path.{_≡_, refl, sym, ap, _∙_}
-use mathlib.Core.Bool.{Bool, true, false, cond, false≢true}
+use mathlib.Core.Bool.{Bool, true, false, cond}
 use mathlib.Core.List.{List}
 use Prim.Native.Nat.{ℕ}
 use native.Mathlib.Omega.{arith}
 use lib.Dec.{eqb, leb}
 use lib.IntN.{pos}
-use borrow.Author.Tests.{eqb-true}
+use borrow.Author.Tests.{ne-eqb}
 use Rattle.laws.specs.All.{All}
 use Rattle.laws.specs.Search.{bit, count}
-use Rattle.laws.specs.Tests.{and-left}
-use Rattle.record.specs.Codes.{completed, kindCash, kindLot, kindLotHistory, kindSettlement}
-use Rattle.record.specs.Codes.{kindSummary, kindTrade, pending, submitted, tms}
+use Rattle.record.specs.Codes.{completed, kindCash, kindLot, kindLotHistory, kindSettlement, kindSummary, kindTrade}
+use Rattle.record.specs.Codes.{pending, submitted, tms}
 use Rattle.record.specs.declared.row.Row.{Row}
 use Rattle.model.specs.Flags.{cash}
 use Rattle.model.specs.Names.{aCash, aSettlement, aSummary, aTrade}
-use Rattle.model.specs.Rows.{found, hasKey, is, nothing}
+use Rattle.model.specs.Rows.{found, hasKey, nothing}
 use Rattle.model.specs.Sound.{lotOf, otherSign, sharesOf}
 use Rattle.model.specs.SoundMeans.{LotRight, S10, S8, S9, SummaryRight}
-use Rattle.result.specs.Apart.{key-kind}
+use Rattle.feed.specs.Steps.{key-of}
 use Rattle.kept.specs.OrderAdds.{grown-each, grown-sum, still-the}
 use Rattle.kept.specs.OrderFresh.{Taken, added, book, each-added, none-numbered}
 use Rattle.kept.specs.OrderNames.{left, of-off, off-count, off-found, off-key, stays}
@@ -52,14 +51,6 @@ module _ {rs : List Row} {input : Row} {broker number price charge commission : 
       omega arith)
 
   -- ---- S8
-  lot-kind : (p : Row → Bool) (a s : ℕ) → ((x : Row) → p x ≡ true → lotOf a s x ≡ true) → (x : Row) → p x ≡ true
-      → x .kind ≡ kindLot
-  lot-kind p a s h x e = go (is kindLot x) refl
-    where
-      go : (b : Bool) → is kindLot x ≡ b → x .kind ≡ kindLot
-      go true q = eqb-true (x .kind) kindLot q
-      go false q = absurd (false≢true (rw q at (h x e)))
-
   pub lots-left : S8 (left o)
   lots-left x m = (lots, sums)
     where
@@ -77,8 +68,7 @@ module _ {rs : List Row} {input : Row} {broker number price charge commission : 
                 ap (λ (r : Row). r .symbol) t ∙ was .0 .0 .1,
               ),
               off-count o kindLot (refl, refl, refl, refl) (otherSign x)
-                  (lot-kind (otherSign x) (x .party) (x .symbol)
-                  (λ y e. and-left (lotOf (x .party) (x .symbol) y) _ e))
+                  (λ y n. rw (ne-eqb (y .kind) kindLot n))
                   ∙ was .0 .1,
             ),
             stays o (aSummary (x .party) (x .symbol)) refl (was .1),
@@ -89,7 +79,9 @@ module _ {rs : List Row} {input : Row} {broker number price charge commission : 
           let here = of-off o kindSummary (refl, refl, refl, refl) x m k in
           let was = book o .s8 x here .1 k in
           let p = lotOf (x .party) (x .symbol) in
-          let same = off-count o kindLot (refl, refl, refl, refl) p (lot-kind p (x .party) (x .symbol) (λ y e. e)) in
+          let same =
+          off-count o kindLot (refl, refl, refl, refl) p (λ y n. rw (ne-eqb (y .kind) kindLot n))
+          in
           let f = sharesOf (x .party) (x .symbol) in (
             omega (arith, same, was .0),
             grown-sum f (added o) rs refl (each-added o (λ h. f h ≡ pos 0) refl refl (λ e. refl)) ∙ was .1,
@@ -101,7 +93,7 @@ module _ {rs : List Row} {input : Row} {broker number price charge commission : 
 
   settled : (i : ℕ) → count (hasKey (aSettlement i)) (left o) ≡ count (hasKey (aSettlement i)) rs
   settled i =
-      off-count o kindSettlement (refl, refl, refl, refl) (hasKey (aSettlement i)) (key-kind (aSettlement i))
+      off-count o kindSettlement (refl, refl, refl, refl) (hasKey (aSettlement i)) (key-of (aSettlement i))
 
   trades-settled : All Settled (left o)
   trades-settled =
@@ -122,7 +114,7 @@ module _ {rs : List Row} {input : Row} {broker number price charge commission : 
           let was = book o .s9 x here .0 .1 k in
           let t = trade-same (x .id) (other o x here (rw k)) in (
             was .0 ∙ ap (λ (r : Row). bit (cash (r .flags))) (sym t),
-            off-count o kindCash (refl, refl, refl, refl) (hasKey (aCash (x .id))) (key-kind (aCash (x .id)))
+            off-count o kindCash (refl, refl, refl, refl) (hasKey (aCash (x .id))) (key-of (aCash (x .id)))
                 ∙ was .1,
           )
 

@@ -1,7 +1,7 @@
 -- An order that is taken leaves S2 to S5: each key is there once, all that is named is there, and bands and rates are
 -- as they were. Assumes nothing.
 use mathlib.Core.Path.{_≡_, refl, sym, ap, _∙_}
-use mathlib.Core.Bool.{Bool, true, false, cond, _&&_, false≢true}
+use mathlib.Core.Bool.{Bool, true, false, cond}
 use mathlib.Core.List.{List, List·Memᴰ, List·Memᴰ·head}
 use mathlib.Core.Logic.{_⊎_, inl, inr, ⊎-elim}
 use Prim.Native.Nat.{ℕ, _+_}
@@ -10,21 +10,23 @@ use lib.Dec.{eqb, leb}
 use borrow.Author.Tests.{eq-eqb, eqb-false, eqb-true, le-leb, ne-eqb}
 use Rattle.laws.specs.All.{All, all-more, all-one}
 use Rattle.laws.specs.Keep.{count-has}
-use Rattle.laws.specs.Search.{bit, count, the, total}
-use Rattle.record.specs.Codes.{kindBand, kindCustomer, kindCustomerRate, kindFree, kindRequest, kindTrade}
-use Rattle.record.specs.Codes.{kindTradeHistory, tms}
+use Rattle.laws.specs.Search.{bit, count, the}
+use Rattle.record.specs.Codes.{kindBand, kindCustomer, kindFree, kindRequest, kindTrade, kindTradeHistory, tms}
 use Rattle.record.specs.Key.{among, byId, keyOf}
 use Rattle.record.specs.KeyLaws.{key-itself, same-keys}
 use Rattle.record.specs.declared.key.Key.{Key}
 use Rattle.record.specs.declared.row.Row.{Row}
 use Rattle.model.specs.Names.{aBroker, aSecurity, aTaxRate, aTrade, anAccount, named}
 use Rattle.model.specs.Rows.{found, hasKey, is, nothing, there}
-use Rattle.model.specs.Sound.{overlaps, ratesOf}
+use Rattle.model.specs.Sound.{overlaps}
 use Rattle.model.specs.SoundMeans.{S2, S3, S4, S5, There}
 use Rattle.tables.specs.Found.{own-number}
-use Rattle.result.specs.Apart.{found-kind, found-member, key-kind, names-broker, other-kind, own-key}
-use Rattle.kept.specs.OrderAdds.{grown, grown-comes, grown-count, grown-each, grown-total, still-count, still-the}
-use Rattle.kept.specs.OrderAdds.{still-was}
+use Rattle.result.specs.Apart.{found-kind, found-member, names-broker, other-kind, own-key}
+use Rattle.feed.specs.Steps.{OfKind, key-of, kind-of}
+use Rattle.kept.specs.Cases.{no, not-so}
+use Rattle.kept.specs.Looks.{rates-alike}
+use Rattle.kept.specs.OrderAdds.{grown, grown-comes, grown-count, grown-each, grown-total, still-count}
+use Rattle.kept.specs.OrderAdds.{still-the, still-was}
 use Rattle.kept.specs.OrderFresh.{Taken, added, book, count-added, each-added, history, none-numbered}
 use Rattle.kept.specs.OrderFresh.{not-numbered, request, trade}
 use Rattle.kept.specs.ResultNames.{named-aside}
@@ -37,11 +39,7 @@ Off k =
 
 -- a row of another kind than the key's
 pub off-key : (k : Key) (x : Row) → eqb (x .kind) (k .kind) ≡ false → hasKey k x ≡ false
-off-key k x e = go (hasKey k x) refl
-  where
-    go : (b : Bool) → hasKey k x ≡ b → hasKey k x ≡ false
-    go true q = absurd (eqb-false (x .kind) (k .kind) e (key-kind k x q))
-    go false q = q
+off-key k x e = key-of k x (eqb-false (x .kind) (k .kind) e)
 
 same-key : (x h : Row) → hasKey (keyOf x) h ≡ true → hasKey (keyOf h) x ≡ true
 unfolding hasKey
@@ -59,13 +57,9 @@ module _ {rs : List Row} {input : Row} {broker number price charge commission : 
   left = grown rs (added o)
 
   -- ---- rows of kinds that are not added
-  module _ (k : ℕ) (off : Off k) (p : Row → Bool) (only : (x : Row) → p x ≡ true → x .kind ≡ k) where
+  module _ (k : ℕ) (off : Off k) (p : Row → Bool) (only : OfKind k p) where
     pub off-row : (x : Row) → eqb (x .kind) k ≡ false → p x ≡ false
-    off-row x e = go (p x) refl
-      where
-        go : (b : Bool) → p x ≡ b → p x ≡ false
-        go true q = absurd (eqb-false (x .kind) k e (only x q))
-        go false q = q
+    off-row x e = only x (eqb-false (x .kind) k e)
 
     pub off-added : All (λ (h : Row). p h ≡ false) (added o)
     off-added =
@@ -82,11 +76,11 @@ module _ {rs : List Row} {input : Row} {broker number price charge commission : 
     off-was = still-was rs (added o) (o .space) p (off-row nothing (off .0)) off-added
 
   pub of-off : (k : ℕ) → Off k → (x : Row) → List·Memᴰ x left → x .kind ≡ k → List·Memᴰ x rs
-  of-off k off x m e = off-was k off (is k) (λ y h. eqb-true (y .kind) k h) x m (eq-eqb (x .kind) k e)
+  of-off k off x m e = off-was k off (is k) (kind-of k) x m (eq-eqb (x .kind) k e)
 
   pub off-found : (k : Key) → Off (k .kind) → found k left ≡ found k rs
   unfolding found
-  off-found k off = off-the (k .kind) off (hasKey k) (key-kind k) nothing
+  off-found k off = off-the (k .kind) off (hasKey k) (key-of k) nothing
 
   -- ---- S2
   -- no row that comes has the key of one that was there
@@ -97,11 +91,8 @@ module _ {rs : List Row} {input : Row} {broker number price charge commission : 
       (λ e. apart (request o) refl refl)
     where
       apart : (h : Row) → among (keyOf h .kind) byId ≡ true → keyOf h .id ≡ number → hasKey (keyOf x) h ≡ false
-      apart h known e = go (hasKey (keyOf x) h) refl
-        where
-          go : (b : Bool) → hasKey (keyOf x) h ≡ b → hasKey (keyOf x) h ≡ false
-          go true q = absurd (false≢true (sym (not-numbered o (keyOf h) known e x m) ∙ same-key x h q))
-          go false q = q
+      apart h known e =
+          not-so (hasKey (keyOf x) h) (λ q. no (not-numbered o (keyOf h) known e x m) (same-key x h q))
 
   -- and each of them has a key of its own
   own : (h : Row) (e : eqb kindFree (keyOf h .kind) ≡ false) → among (keyOf h .kind) byId ≡ true → keyOf h .id ≡ number
@@ -206,32 +197,19 @@ module _ {rs : List Row} {input : Row} {broker number price charge commission : 
   -- ---- S4
   pub bands-left : S4 left
   bands-left x m e =
-      off-count kindBand (refl, refl, refl, refl) (overlaps x) only
+      off-count kindBand (refl, refl, refl, refl) (overlaps x)
+      (λ y n. rw (ne-eqb (y .kind) kindBand n))
       ∙ book o .s4 x (of-off kindBand (refl, refl, refl, refl) x m e) e
-    where
-      only : (y : Row) → overlaps x y ≡ true → y .kind ≡ kindBand
-      only y h = go (is kindBand y) refl
-        where
-          go : (b : Bool) → is kindBand y ≡ b → y .kind ≡ kindBand
-          go true q = eqb-true (y .kind) kindBand q
-          go false q = absurd (false≢true (rw q at h))
 
   -- ---- S5
-  abbrev rateBy : (ℕ → ℕ) → ℕ → Row → ℕ
-  rateBy rate customer x = cond (is kindCustomerRate x && eqb (x .party) customer) (rate (x .n1)) 0
-
-  rates-same : (customer : ℕ) → ratesOf left customer ≡ ratesOf rs customer
-  unfolding ratesOf
-  rates-same customer =
-      ap (λ (f : ℕ → ℕ). total (rateBy f customer) left) (λ i m. same m i .n1)
-      ∙ grown-total rs (added o) (o .space) (rateBy (λ m. found (aTaxRate m) rs .n1) customer) refl
-      (each-added o (λ h. rateBy (λ m. found (aTaxRate m) rs .n1) customer h ≡ 0) refl refl (λ e. refl))
-    where
-      same : (m : ℕ) → found (aTaxRate m) left ≡ found (aTaxRate m) rs
-      same m = off-found (aTaxRate m) (refl, refl, refl, refl)
-
   pub rates-left : S5 left
   rates-left x m e =
       let was = book o .s5 x (of-off kindCustomer (refl, refl, refl, refl) x m e) e in
-      let same = rates-same (x .party) in
+      let same =
+      rates-alike left rs (λ i. off-found (aTaxRate i) (refl, refl, refl, refl))
+      (λ μ none. grown-total rs (added o) (o .space) μ (none nothing (λ z. omega arith))
+      (each-added o (λ h. μ h ≡ 0) (none (trade o) (λ z. omega arith)) (none (history o) (λ z. omega arith))
+      (λ e. none (request o) (λ z. omega arith))))
+      (x .party)
+      in
       omega arith

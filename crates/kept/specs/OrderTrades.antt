@@ -6,12 +6,11 @@ use mathlib.Core.List.{List, List·Memᴰ, List·Memᴰ·head, List·Memᴰ·tai
 use Prim.Native.Nat.{ℕ, _+_, _≤_}
 use native.Mathlib.Omega.{arith}
 use lib.Dec.{eqb, leb, ltb}
-use borrow.Author.Tests.{eq-eqb, eqb-true, le-ltb, leb-false, ne-eqb}
+use borrow.Author.Tests.{eq-eqb, eqb-false, eqb-true, le-ltb, leb-false, ne-eqb}
 use Rattle.laws.specs.All.{All}
 use Rattle.laws.specs.Keep.{count-has}
 use Rattle.laws.specs.Search.{count}
-use Rattle.record.specs.Codes.{kindRequest}
-use Rattle.record.specs.Codes.{kindTrade, kindTradeHistory, pending, submitted, tlb, tms}
+use Rattle.record.specs.Codes.{kindRequest, kindTrade, kindTradeHistory, pending, submitted, tlb, tms}
 use Rattle.record.specs.Key.{among, byId, keyOf}
 use Rattle.record.specs.declared.key.Key.{Key}
 use Rattle.record.specs.declared.row.Row.{Row}
@@ -22,6 +21,7 @@ use Rattle.model.specs.Sound.{higher}
 use Rattle.model.specs.SoundMeans.{S6, S7, There}
 use Rattle.tables.specs.Found.{own-number}
 use Rattle.result.specs.Apart.{own-key}
+use Rattle.kept.specs.Looks.{agrees-not, agrees-of, agreesBy}
 use Rattle.kept.specs.OrderAdds.{grown-comes, grown-count, grown-each, still-count}
 use Rattle.kept.specs.OrderFresh.{Taken, added, book, count-added, each-added, history, none-numbered}
 use Rattle.kept.specs.OrderFresh.{not-numbered, number-below, other-numbered, request, trade, trade-below}
@@ -29,15 +29,6 @@ use Rattle.kept.specs.OrderNames.{left, off-found, off-key, stays}
 use Rattle.laws.specs.Puts.{count-no}
 
 -- ---- requests
--- a request that agrees with a trade, of a broker
-abbrev agreesBy : ℕ → Row → Row → Bool
-agreesBy broker t r =
-    hasKey (aRequest (t .id)) r && eqb (r .form) (t .form) && eqb (r .symbol) (t .symbol) && eqb (r .n1) (t .n1)
-    && eqb (r .n2) (t .n2) && eqb (r .party) broker
-
-not-agrees : (broker : ℕ) (t r : Row) → hasKey (aRequest (t .id)) r ≡ false → agreesBy broker t r ≡ false
-not-agrees broker t r e = rw e
-
 all-six : {a b c d e f : Bool} → a ≡ true → b ≡ true → c ≡ true → d ≡ true → e ≡ true → f ≡ true
     → (a && b && c && d && e && f) ≡ true
 all-six p q r s t u = rw (p, q, r, s, t, u)
@@ -84,8 +75,8 @@ module _ {rs : List Row} {input : Row} {broker number price charge commission : 
         λ e. (
           was .0 e .0,
           ap (λ (n : ℕ). count (agreesBy n t) (left o)) (broker-same t)
-              ∙ still-count rs (added o) (o .space) (agreesBy by t) (not-agrees by t nothing none)
-              (λ h i. not-agrees by t h (new h i))
+              ∙ still-count rs (added o) (o .space) (agreesBy by t) (agrees-not by t nothing none)
+              (λ h i. agrees-not by t h (new h i))
               ∙ was .0 e .1,
         ),
         λ e. still-count rs (added o) (o .space) (hasKey (aRequest (t .id))) none new ∙ was .1 e,
@@ -104,7 +95,7 @@ module _ {rs : List Row} {input : Row} {broker number price charge commission : 
         let by = found (anAccount (input .party)) (left o) .n1 in
         let p = agreesBy by (trade o) in
         let off : (x : Row) → eqb (x .kind) kindRequest ≡ false → p x ≡ false =
-        λ x z. not-agrees by (trade o) x (off-key (aRequest number) x z)
+        λ x z. agrees-of by (trade o) x (eqb-false (x .kind) kindRequest z)
         in
         let right : p (request o) ≡ true =
         all-six new-request (eq-eqb (input .form) (input .form) refl) (eq-eqb (input .symbol) (input .symbol) refl)
@@ -112,7 +103,7 @@ module _ {rs : List Row} {input : Row} {broker number price charge commission : 
         (eq-eqb broker by (sym (broker-same (trade o) ∙ o .broker-is)))
         in
         let all = grown-count rs (added o) (o .space) p (off nothing refl) in
-        let was = count-no p rs (λ x m. not-agrees by (trade o) x (not-numbered o (aRequest number) refl refl x m)) in
+        let was = count-no p rs (λ x m. agrees-not by (trade o) x (not-numbered o (aRequest number) refl refl x m)) in
         let now : count p (added o) ≡ 1 =
         count-added o p (off (trade o) refl) (off (history o) refl) (λ z. right)
         ∙ ap (λ (t : Bool). 0 + (0 + cond t 0 1)) w

@@ -7,7 +7,7 @@ use Prim.Native.Nat.{ℕ, _≤_}
 use native.Mathlib.Omega.{arith}
 use lib.Dec.{eqb}
 use lib.ListN.{length}
-use borrow.Author.Tests.{eq-eqb, eqb-false, eqb-true}
+use borrow.Author.Tests.{eq-eqb, eqb-false}
 use Rattle.laws.specs.All.{All}
 use Rattle.laws.specs.Change.{puts}
 use Rattle.laws.specs.Search.{count, the, total}
@@ -21,6 +21,7 @@ use Rattle.model.specs.Rows.{found, hasKey, is, nothing, sameRow}
 use Rattle.shelf.specs.Put.{row-itself, same-rows}
 use Rattle.result.specs.Apart.{broker-key, holding-key, key-kind, trade-key}
 use Rattle.result.specs.Own.{Read, Sums, added, brokerWrite, tradeWrite, writes}
+use Rattle.feed.specs.Steps.{OfKind, key-of, kind-of}
 use Rattle.kept.specs.Cases.{no}
 use Rattle.kept.specs.Posted.{adds}
 use Rattle.kept.specs.ResultBase.{all, all-inside}
@@ -101,21 +102,17 @@ module _ {rs : List Row} {t summary account broker : Row} {cs : List Closing}
 
   -- ---- kinds that are not written
   module _ (k : ℕ) (s : Still k) where
-    pub still : (p : Row → Bool) → ((x : Row) → p x ≡ true → x .kind ≡ k) → All (Quiet p) (all r n)
+    pub still : (p : Row → Bool) → OfKind k p → All (Quiet p) (all r n)
     still p only =
         by-kind r n (Quiet p) k p only (s .0) (λ w a b. (a, b)) (no (s .1 .0)) (no (s .1 .1)) (no (s .1 .2))
         (no (s .1 .3)) (no (s .1 .4)) (no (s .1 .5))
 
     pub still-was : (x : Row) → List·Memᴰ x after → x .kind ≡ k → List·Memᴰ x rs
-    still-was x m e =
-        quiet-was (is k) (still (is k) (λ y h. eqb-true (y .kind) k h)) x m (ap (λ (j : ℕ). eqb j k) e ∙ itself)
-      where
-        itself : eqb k k ≡ true
-        itself = eq-eqb k k refl
+    still-was x m e = quiet-was (is k) (still (is k) (kind-of k)) x m (eq-eqb (x .kind) k e)
 
     pub still-sum : (μ : Row → ℕ) → ((x : Row) → (x .kind ≡ k → ⊥) → μ x ≡ 0) → total μ after ≡ total μ rs
     still-sum μ none =
-        let quiet = still (is k) (λ y h. eqb-true (y .kind) k h) in
+        let quiet = still (is k) (kind-of k) in
         let law = puts-total sameRow same-rows row-itself μ (all r n) rs inside in
         let same =
         same-sums μ (all r n)
@@ -126,13 +123,13 @@ module _ {rs : List Row} {t summary account broker : Row} {cs : List Closing}
         omega arith
 
   pub still-found : (k : Key) → Still (k .kind) → found k after ≡ found k rs
-  still-found k s = quiet-found k (still (k .kind) s (hasKey k) (key-kind k))
+  still-found k s = quiet-found k (still (k .kind) s (hasKey k) (key-of k))
 
   -- ---- every key is there still, but those of lots and summaries
   pub key-stays : (k : Key) → Aside (k .kind) → count (hasKey k) rs ≤ count (hasKey k) after
   key-stays k a =
       after-more (hasKey k)
-      (by-kind r n (More (hasKey k)) (k .kind) (hasKey k) (key-kind k) a (λ w e f h. no e h)
+      (by-kind r n (More (hasKey k)) (k .kind) (hasKey k) (key-of k) a (λ w e f h. no e h)
       (λ e h. absurd (free h)) (λ e h. absurd (free h)) (λ e z h. absurd (free h))
       (λ e. alike account _ (holding-key account (n .balance)))
       (λ e. alike t (tradeWrite t n .1) (trade-key t (n .price) (n .commission) (n .tax) (n .time) (r .t-kind)))

@@ -3,7 +3,7 @@
 use mathlib.Core.Path.{_≡_, refl, sym, ap, _∙_}
 use mathlib.Core.Bool.{Bool, true, false, _&&_, false≢true}
 use mathlib.Core.List.{List, [], _∷_, _++_, List·Memᴰ}
-use Prim.Native.Nat.{ℕ, _+_, _≤_}
+use Prim.Native.Nat.{_+_, _≤_}
 use native.Mathlib.Omega.{arith}
 use lib.Dec.{eqb, leb}
 use lib.IntN.{natAbs}
@@ -37,8 +37,7 @@ use Rattle.result.specs.Own
 use Rattle.result.specs.Own.{Read, Sums, added, all-own}
 use Rattle.result.specs.Posted.{reads, sumsOf, writes-once}
 use Rattle.kept.specs.Posted.{adds, posted-puts, writes}
-use Rattle.laws.specs.Puts.{count-length, count-less, count-no}
-use Rattle.laws.specs.Puts.{Inside, is-counted, member, olds}
+use Rattle.laws.specs.Puts.{Inside, count-length, count-less, count-no, is-counted, member, olds}
 
 -- what a result posts on these rows
 abbrev pub postingOf : List Row → Row → Posting

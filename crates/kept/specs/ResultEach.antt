@@ -24,6 +24,8 @@ use Rattle.result.specs.Place.{frees}
 use Rattle.result.specs.Rows.{accountChanges, cashRow, closedLots, closingRows, finalRows, gone, holding, lotChanges}
 use Rattle.result.specs.Rows.{lotHistory, newLot, newSummary, openingRows, reduced, settlementRow, summaryChanges}
 use Rattle.result.specs.Rows.{summaryGone, summaryRows, summedShares, tradeHistory}
+use Rattle.feed.specs.Steps.{OfKind}
+use Rattle.kept.specs.Cases.{by-cases}
 use Rattle.kept.specs.Posted.{adds}
 use Rattle.kept.specs.ResultBase.{all}
 
@@ -141,31 +143,19 @@ module _ {rs : List Row} {t summary account broker : Row} {cs : List Closing}
         each-freed)
 
   -- ---- where a test passes rows of such a kind only, no more is to be shown than of the rows of that kind
-  module _ (k : ℕ) (p : Row → Bool) (only : (x : Row) → p x ≡ true → x .kind ≡ k) (a : Aside k)
+  module _ (k : ℕ) (p : Row → Bool) (only : OfKind k p) (a : Aside k)
       (quiet : (w : Row × Row) → p (w .0) ≡ false → p (w .1) ≡ false → Q w) where
     off : (j : ℕ) → eqb j k ≡ false → (x : Row) → x .kind ≡ j → p x ≡ false
-    off j e x h = go (p x) refl
-      where
-        go : (b : Bool) → p x ≡ b → p x ≡ false
-        go true q = absurd (eqb-false j k e (sym h ∙ only x q))
-        go false q = q
+    off j e x h = only x (λ q. eqb-false j k e (sym h ∙ q))
 
     off-free : p nothing ≡ false
     off-free = off kindFree (a .0) nothing refl
 
     fresh : (j : ℕ) (x : Row) → x .kind ≡ j → (eqb j k ≡ true → Q (nothing, x)) → Q (nothing, x)
-    fresh j x h f = go (eqb j k) refl
-      where
-        go : (b : Bool) → eqb j k ≡ b → Q (nothing, x)
-        go true e = f e
-        go false e = quiet (nothing, x) off-free (off j e x h)
+    fresh j x h f = by-cases (eqb j k) f (λ e. quiet (nothing, x) off-free (off j e x h))
 
     turned : (j : ℕ) (o x : Row) → o .kind ≡ j → x .kind ≡ j → (eqb j k ≡ true → Q (o, x)) → Q (o, x)
-    turned j o x h i f = go (eqb j k) refl
-      where
-        go : (b : Bool) → eqb j k ≡ b → Q (o, x)
-        go true e = f e
-        go false e = quiet (o, x) (off j e o h) (off j e x i)
+    turned j o x h i f = by-cases (eqb j k) f (λ e. quiet (o, x) (off j e o h) (off j e x i))
 
     pub by-kind : (eqb kindTradeHistory k ≡ true → Q (nothing, historyOf t n))
         → (eqb kindSettlement k ≡ true → Q (nothing, settlementOf t n))

@@ -1,5 +1,5 @@
 -- Signed numbers by their two sides, and sums of them. Assumes nothing.
-use mathlib.Core.Path.{_≡_, refl, sym, _∙_}
+use mathlib.Core.Path.{_≡_, refl, sym}
 use mathlib.Core.Bool.{Bool, true, false, cond, not, false≢true}
 use mathlib.Core.List.{List, [], _∷_}
 use Prim.Native.Nat.{ℕ, zero, suc, _+_, _-_, _≤_}
@@ -13,7 +13,6 @@ use Rattle.laws.specs.Search.{sumZ, total}
 use Rattle.laws.specs.Tests.{_⇔_}
 use Rattle.record.specs.Signed.{dn, eq-parts, got64, parts-add, up}
 use Rattle.model.specs.Edit.{bits64}
-use Rattle.model.specs.Money.{buys}
 use Rattle.result.specs.Signed.{neg-dn, neg-near, neg-neg, neg-up}
 
 -- the side of a trade that buys is above zero, that of one that sells below

@@ -1,16 +1,16 @@
 -- A result that is done leaves S3, S4 and S5: all that is named is there, and bands and rates are as they were. Assumes
 -- nothing.
-use mathlib.Core.Path.{_≡_, refl, sym, ap, subst, _∙_}
-use mathlib.Core.Bool.{Bool, true, false, cond, not, _&&_, false≢true}
+use mathlib.Core.Path.{_≡_, refl, sym, subst, _∙_}
+use mathlib.Core.Bool.{Bool, true, not, _&&_}
 use mathlib.Core.List.{List, [], _∷_, List·Memᴰ, List·Memᴰ·head}
 use Prim.Native.Nat.{ℕ, zero, suc, _≤_}
 use native.Mathlib.Omega.{arith}
 use lib.Dec.{eqb}
 use lib.ListN.{getD, length}
-use borrow.Author.Tests.{eq-eqb, eqb-true, ne-eqb, not-true}
+use borrow.Author.Tests.{eq-eqb, ne-eqb, not-true}
 use Rattle.laws.specs.All.{All, all-more, all-none, all-one}
 use Rattle.laws.specs.Keep.{count-has}
-use Rattle.laws.specs.Search.{count, every, means-every, total}
+use Rattle.laws.specs.Search.{count, every, means-every}
 use Rattle.laws.specs.Tests.{and-left, and-right}
 use Rattle.record.specs.Codes.{kindBand, kindBroker, kindCustomer, kindCustomerRate, kindFree, kindLot, kindLotHistory}
 use Rattle.record.specs.Codes.{kindSummary, kindTrade}
@@ -18,13 +18,14 @@ use Rattle.record.specs.declared.key.Key.{Key}
 use Rattle.record.specs.declared.row.Row.{Row}
 use Rattle.model.specs.Lots.{Closing}
 use Rattle.model.specs.Names.{aSecurity, aTaxRate, aTrade, anAccount, named, names}
-use Rattle.model.specs.Rows.{found, hasKey, is, nothing, sameRow}
-use Rattle.model.specs.Sound.{overlaps, ratesOf}
+use Rattle.model.specs.Rows.{hasKey, nothing, sameRow}
+use Rattle.model.specs.Sound.{overlaps}
 use Rattle.model.specs.SoundMeans.{S3, S4, S5, There}
 use Rattle.tables.specs.Found.{own-number}
 use Rattle.result.specs.Apart.{names-account, names-broker}
 use Rattle.result.specs.Own.{Read, Sums, added, brokerWrite, tradeWrite}
 use Rattle.result.specs.Rows.{holding}
+use Rattle.kept.specs.Looks.{rates-alike}
 use Rattle.kept.specs.ResultAfter.{after, after-each, key-stays, quiet-count, still, still-found, still-sum}
 use Rattle.kept.specs.ResultAfter.{still-was}
 use Rattle.kept.specs.ResultEach.{Aside, Each, each-write, lotAfter, summaryAfter}
@@ -74,10 +75,6 @@ names-summary s e = rw e
 names-none : (b : Row) → b .kind ≡ kindBroker → named b ≡ []
 unfolding named
 names-none b e = rw e
-
--- a customer's rate, told of the rates by their numbers
-abbrev pub rateBy : (ℕ → ℕ) → ℕ → Row → ℕ
-rateBy rate customer x = cond (is kindCustomerRate x && eqb (x .party) customer) (rate (x .n1)) 0
 
 module _ {rs : List Row} {t summary account broker : Row} {cs : List Closing}
     (r : Read rs t summary account broker cs) (n : Sums)
@@ -155,35 +152,23 @@ module _ {rs : List Row} {t summary account broker : Row} {cs : List Closing}
   pub bands-left : S4 (after r n space)
   bands-left x m e =
       quiet-count r n space (overlaps x)
-      (still r n space kindBand ((refl, refl, refl, refl), (refl, refl, refl, refl, refl, refl)) (overlaps x) only)
+      (still r n space kindBand ((refl, refl, refl, refl), (refl, refl, refl, refl, refl, refl)) (overlaps x)
+      (λ y d. rw (ne-eqb (y .kind) kindBand d)))
       ∙ book r n .s4 x
       (still-was r n space kindBand ((refl, refl, refl, refl), (refl, refl, refl, refl, refl, refl)) x m e)
       e
-    where
-      only : (y : Row) → overlaps x y ≡ true → y .kind ≡ kindBand
-      only y h = go (is kindBand y) refl
-        where
-          go : (b : Bool) → is kindBand y ≡ b → y .kind ≡ kindBand
-          go true q = eqb-true (y .kind) kindBand q
-          go false q = absurd (false≢true (rw q at h))
 
   -- ---- S5
-  rates-same : (customer : ℕ) → ratesOf (after r n space) customer ≡ ratesOf rs customer
-  unfolding ratesOf
-  rates-same customer =
-      ap (λ (f : ℕ → ℕ). total (rateBy f customer) (after r n space)) (λ i m. same m i .n1)
-      ∙ still-sum r n space kindCustomerRate ((refl, refl, refl, refl), (refl, refl, refl, refl, refl, refl))
-      (rateBy (λ m. found (aTaxRate m) rs .n1) customer)
-      (λ x h. rw (ne-eqb (x .kind) kindCustomerRate h))
-    where
-      same : (m : ℕ) → found (aTaxRate m) (after r n space) ≡ found (aTaxRate m) rs
-      same m = still-found r n space (aTaxRate m) ((refl, refl, refl, refl), (refl, refl, refl, refl, refl, refl))
-
   pub rates-left : S5 (after r n space)
   rates-left x m e =
       let was =
       book r n .s5 x
       (still-was r n space kindCustomer ((refl, refl, refl, refl), (refl, refl, refl, refl, refl, refl)) x m e) e
       in
-      let same = rates-same (x .party) in
+      let same =
+      rates-alike (after r n space) rs
+      (λ i. still-found r n space (aTaxRate i) ((refl, refl, refl, refl), (refl, refl, refl, refl, refl, refl)))
+      (still-sum r n space kindCustomerRate ((refl, refl, refl, refl), (refl, refl, refl, refl, refl, refl)))
+      (x .party)
+      in
       omega arith

@@ -7,7 +7,7 @@ use Prim.Native.Nat.{ℕ, _≤_}
 use native.Mathlib.Omega.{arith}
 use lib.Dec.{eqb}
 use lib.ListN.{length}
-use borrow.Author.Tests.{eq-eqb, eqb-false, eqb-true}
+use borrow.Author.Tests.{eq-eqb, eqb-false}
 use Rattle.laws.specs.All.{All}
 use Rattle.laws.specs.Keep.{count-has}
 use Rattle.laws.specs.Search.{bit, count}
@@ -16,12 +16,14 @@ use Rattle.record.specs.declared.key.Key.{Key}
 use Rattle.record.specs.declared.row.Row.{Row}
 use Rattle.model.specs.Flags.{cash}
 use Rattle.model.specs.Lots.{Closing}
-use Rattle.model.specs.Names.{aCash, aSettlement, aSummary, aTrade}
+use Rattle.model.specs.Names.{aCash, aSettlement, aSummary, aTrade, byId}
 use Rattle.model.specs.Rows.{found, hasKey, is, nothing, sameRow}
 use Rattle.model.specs.SoundMeans.{Each, S9}
 use Rattle.tables.specs.Found.{own-number}
-use Rattle.result.specs.Apart.{key-kind}
 use Rattle.result.specs.Own.{Read, Sums, added}
+use Rattle.record.specs.Key.{among}
+use Rattle.tables.specs.Names.{idKinds}
+use Rattle.feed.specs.Steps.{key-of, kind-of}
 use Rattle.kept.specs.Cases.{no}
 use Rattle.kept.specs.ResultAfter.{after-each, after-fewer, quiet-count, quiet-found}
 use Rattle.kept.specs.ResultBase.{all}
@@ -50,18 +52,11 @@ module _ {rs : List Row} {t summary account broker : Row} {cs : List Closing}
   cash-quiet = others r n s-own space kindCash refl (refl, refl, refl, refl) refl refl refl
 
   -- a settlement or a cash row that was there is one of another trade
-  not-mine : (x : Row) → List·Memᴰ x rs → x .kind ≡ kindSettlement → t .id ≡ x .id → ⊥
-  not-mine x m k i =
-      let own = own-number kindSettlement refl (t .id) x (eq-eqb (x .kind) kindSettlement k) (sym i) in
-      let some = count-has (hasKey (aSettlement (t .id))) x rs m own in
-      let none = no-settlement r n in
-      omega arith
-
-  not-paid : (x : Row) → List·Memᴰ x rs → x .kind ≡ kindCash → t .id ≡ x .id → ⊥
-  not-paid x m k i =
-      let own = own-number kindCash refl (t .id) x (eq-eqb (x .kind) kindCash k) (sym i) in
-      let some = count-has (hasKey (aCash (t .id))) x rs m own in
-      let none = no-cash r n in
+  not-own : (k : ℕ) → among k idKinds ≡ true → count (hasKey (byId k (t .id))) rs ≡ 0 → (x : Row) → List·Memᴰ x rs
+      → x .kind ≡ k → t .id ≡ x .id → ⊥
+  not-own k known none x m e i =
+      let own = own-number k known (t .id) x (eq-eqb (x .kind) k e) (sym i) in
+      let some = count-has (hasKey (byId k (t .id))) x rs m own in
       omega arith
 
   -- ---- those of this trade
@@ -96,7 +91,7 @@ module _ {rs : List Row} {t summary account broker : Row} {cs : List Closing}
           let none = no-cash r n in
           let few =
           after-fewer r n space (hasKey k)
-          (by-kind r n (Fewer (hasKey k)) kindCash (hasKey k) (key-kind k) (refl, refl, refl, refl)
+          (by-kind r n (Fewer (hasKey k)) kindCash (hasKey k) (key-of k) (refl, refl, refl, refl)
           (λ w a b h. no b h) (no refl) (no refl) (λ q z. no e z) (no refl) (no refl) (no refl))
           in
           omega arith
@@ -122,12 +117,12 @@ module _ {rs : List Row} {t summary account broker : Row} {cs : List Closing}
       after-each r n space Settled
       (λ x m k.
       let was = book r n .s9 x m .0 .1 k in
-      let ne = not-mine x m k in (
+      let ne = not-own kindSettlement refl (no-settlement r n) x m k in (
         was .0 ∙ ap (λ (y : Row). bit (cash (y .flags))) (sym (trade-other r n s-own space (x .id) ne)),
         quiet-count r n space (hasKey (aCash (x .id))) (cash-quiet (x .id) ne) ∙ was .1,
       ))
       (by-kind r n (λ (w : Row × Row). Settled (w .1)) kindSettlement (is kindSettlement)
-      (λ y h. eqb-true (y .kind) kindSettlement h) (refl, refl, refl, refl)
+      (kind-of kindSettlement) (refl, refl, refl, refl)
       (λ w a b k. absurd (eqb-false (w .1 .kind) kindSettlement b k)) (no refl)
       (λ e k. (
         flag-bit (cash (t .flags)) ∙ ap (λ (y : Row). bit (cash (y .flags))) (sym (trade-done r n s-own space)),
@@ -148,10 +143,11 @@ module _ {rs : List Row} {t summary account broker : Row} {cs : List Closing}
       after-each r n space Paid
       (λ x m k.
       let was = book r n .s9 x m .1 k in
-      let same = quiet-found r n space (aSettlement (x .id)) (settlements-quiet (x .id) (not-paid x m k)) in
+      let ne = not-own kindCash refl (no-cash r n) x m k in
+      let same = quiet-found r n space (aSettlement (x .id)) (settlements-quiet (x .id) ne) in
       (ap (λ (y : Row). y .flags) same ∙ was .0, ap (λ (y : Row). y .m1) same ∙ was .1))
       (by-kind r n (λ (w : Row × Row). Paid (w .1)) kindCash (is kindCash)
-      (λ y h. eqb-true (y .kind) kindCash h) (refl, refl, refl, refl)
+      (kind-of kindCash) (refl, refl, refl, refl)
       (λ w a b k. absurd (eqb-false (w .1 .kind) kindCash b k)) (no refl) (no refl)
       (λ e z k. (
         ap (λ (y : Row). y .flags) settlement-found ∙ ap (λ (b : Bool). cond b 1 0) z,

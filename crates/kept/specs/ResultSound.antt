@@ -1,5 +1,5 @@
 -- An accepted result leaves a sound book: S1 to S10 together. Assumes nothing.
-use mathlib.Core.Path.{_≡_, _∙_}
+use mathlib.Core.Path.{_≡_}
 use mathlib.Core.Bool.{true}
 use mathlib.Core.List.{List}
 use Prim.Native.Nat.{_≤_}
@@ -13,8 +13,8 @@ use Rattle.model.specs.Sound.{sound}
 use Rattle.model.specs.SoundMeans.{means-sound}
 use Rattle.kept.specs.ResultBase.{accepted-all, result-writes}
 use Rattle.kept.specs.ResultFitsWhole.{s1-result, s8-result}
-use Rattle.kept.specs.ResultLeft.{s10-result, s2-result, s3-result, s4-result, s5-result, s6-result, s7-result}
-use Rattle.kept.specs.ResultLeft.{resultLeaves, s9-result}
+use Rattle.kept.specs.ResultLeft.{resultLeaves, s10-result, s2-result, s3-result, s4-result, s5-result}
+use Rattle.kept.specs.ResultLeft.{s6-result, s7-result, s9-result}
 
 pub result-sound : (rs : List Row) (input : Row) → length rs ≤ mostRecords → sound rs ≡ true → resultInput input ≡ true
     → isDone (result rs input .status) ≡ true → sound (result rs input .rows) ≡ true

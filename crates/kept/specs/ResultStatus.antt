@@ -1,13 +1,13 @@
 -- A result that is done leaves S6, S7 and S10: requests, histories and lot histories agree with the trades' statuses.
 -- Assumes nothing.
 use mathlib.Core.Path.{_≡_, refl, sym, ap, subst, _∙_}
-use mathlib.Core.Bool.{Bool, true, false, _&&_, false≢true}
+use mathlib.Core.Bool.{Bool, true, false, false≢true}
 use mathlib.Core.List.{List, List·Memᴰ}
 use Prim.Native.Nat.{ℕ, _≤_}
 use native.Mathlib.Omega.{arith}
 use lib.Dec.{eqb, ltb}
 use lib.ListN.{length}
-use borrow.Author.Tests.{eq-eqb, eqb-false, eqb-true, le-leb, lt-ltb, ltb-true}
+use borrow.Author.Tests.{eq-eqb, eqb-false, eqb-true, ne-eqb, le-leb, lt-ltb, ltb-true}
 use Rattle.laws.specs.Keep.{count-has}
 use Rattle.laws.specs.Search.{count}
 use Rattle.laws.specs.Tests.{and-both, and-left, and-right}
@@ -24,10 +24,12 @@ use Rattle.model.specs.Sound.{agrees, higher}
 use Rattle.model.specs.SoundMeans.{S10, S6, S7}
 use Rattle.shelf.specs.Put.{found-has}
 use Rattle.tables.specs.Names.{by-party, ofId}
-use Rattle.result.specs.Apart.{found-member, key-kind, own-key}
+use Rattle.result.specs.Apart.{found-member, own-key}
 use Rattle.result.specs.Own.{Read, Sums, added, brokerWrite, tradeWrite}
 use Rattle.result.specs.Rows.{holding}
-use Rattle.kept.specs.Cases.{no}
+use Rattle.feed.specs.Steps.{key-of}
+use Rattle.kept.specs.Looks.{agrees-of, agreesBy}
+use Rattle.kept.specs.Cases.{no, not-so}
 use Rattle.kept.specs.ResultAfter.{Still, after-each, after-fewer, key-stays, quiet-count, quiet-found, still}
 use Rattle.kept.specs.ResultEach.{Each, by-kind, cashOf, each-write, historyOf, lotAfter, lotOpened}
 use Rattle.kept.specs.ResultEach.{settlementOf, summaryAfter, summaryOpened}
@@ -43,18 +45,13 @@ module _ {rs : List Row} {t summary account broker : Row} {cs : List Closing}
   now = left r n s-own space
 
   -- ---- S6: no request is written, and an account keeps its broker
-  abbrev agreesAt : ℕ → Row → Row → Bool
-  agreesAt m x y =
-      hasKey (aRequest (x .id)) y && eqb (y .form) (x .form) && eqb (y .symbol) (x .symbol) && eqb (y .n1) (x .n1)
-      && eqb (y .n2) (x .n2) && eqb (y .party) m
-
   requests : Still kindRequest
   requests = ((refl, refl, refl, refl), (refl, refl, refl, refl, refl, refl))
 
   same-requests : (i : ℕ) → count (hasKey (aRequest i)) now ≡ count (hasKey (aRequest i)) rs
   same-requests i =
       quiet-count r n space (hasKey (aRequest i))
-      (still r n space kindRequest requests (hasKey (aRequest i)) (key-kind (aRequest i)))
+      (still r n space kindRequest requests (hasKey (aRequest i)) (key-of (aRequest i)))
 
   -- the account that may have changed
   account-own : hasKey (anAccount (account .party)) account ≡ true
@@ -71,7 +68,7 @@ module _ {rs : List Row} {t summary account broker : Row} {cs : List Closing}
       ap (λ (y : Row). y .n1)
       (sym (found-one rs (book r n .s2) k x (λ z. omega arith) m e)
       ∙ found-one rs (book r n .s2) k account (λ z. omega arith) (r .a-held) account-own))
-      (by-kind r n (λ (w : Row × Row). p (w .1) ≡ true → w .1 .n1 ≡ account .n1) kindAccount p (key-kind k)
+      (by-kind r n (λ (w : Row × Row). p (w .1) ≡ true → w .1 .n1 ≡ account .n1) kindAccount p (key-of k)
       (refl, refl, refl, refl) (λ w a b h. no b h) (no refl) (no refl) (no refl) (λ e h. refl) (no refl) (no refl))
     where
       k : Key
@@ -95,13 +92,10 @@ module _ {rs : List Row} {t summary account broker : Row} {cs : List Closing}
           (sym (found-one rs (book r n .s2) k account (λ z. omega arith) (r .a-held) account-own))
 
       off : (x : Row) → x .party ≡ account .party → (account .party ≡ i → ⊥) → hasKey (anAccount i) x ≡ false
-      off x q ne = one (hasKey (anAccount i) x) refl
-        where
-          one : (b : Bool) → hasKey (anAccount i) x ≡ b → hasKey (anAccount i) x ≡ false
-          one true e =
-              let h = and-right (is kindAccount x) (eqb (x .party) i) (sym (by-party kindAccount refl i x) ∙ e) in
-              absurd (ne (sym q ∙ eqb-true (x .party) i h))
-          one false e = e
+      off x q ne =
+          not-so (hasKey (anAccount i) x) (λ e.
+          let h = and-right (is kindAccount x) (eqb (x .party) i) (sym (by-party kindAccount refl i x) ∙ e) in
+          ne (sym q ∙ eqb-true (x .party) i h))
 
       go : (b : Bool) → eqb (account .party) i ≡ b → found (anAccount i) now .n1 ≡ found (anAccount i) rs .n1
       go true e =
@@ -112,24 +106,17 @@ module _ {rs : List Row} {t summary account broker : Row} {cs : List Closing}
           let ne = eqb-false (account .party) i e in
           ap (λ (y : Row). y .n1)
           (quiet-found r n space (anAccount i)
-          (by-kind r n (Quiet (hasKey (anAccount i))) kindAccount (hasKey (anAccount i)) (key-kind (anAccount i))
+          (by-kind r n (Quiet (hasKey (anAccount i))) kindAccount (hasKey (anAccount i)) (key-of (anAccount i))
           (refl, refl, refl, refl) (λ w a b. (a, b)) (no refl) (no refl) (no refl)
           (λ q. (off account refl ne, off _ refl ne)) (no refl) (no refl)))
 
   same-agree : (x : Row) → count (agrees now x) now ≡ count (agrees rs x) rs
   same-agree x =
-      ap (λ (m : ℕ). count (agreesAt m x) now) (same-broker (x .party))
-      ∙ quiet-count r n space (agreesAt b x) (still r n space kindRequest requests (agreesAt b x) only)
+      ap (λ (m : ℕ). count (agreesBy m x) now) (same-broker (x .party))
+      ∙ quiet-count r n space (agreesBy b x) (still r n space kindRequest requests (agreesBy b x) (agrees-of b x))
     where
       b : ℕ
       b = found (anAccount (x .party)) rs .n1
-
-      only : (y : Row) → agreesAt b x y ≡ true → y .kind ≡ kindRequest
-      only y h = go (hasKey (aRequest (x .id)) y) refl
-        where
-          go : (c : Bool) → hasKey (aRequest (x .id)) y ≡ c → y .kind ≡ kindRequest
-          go true q = key-kind (aRequest (x .id)) y q
-          go false q = absurd (false≢true (rw q at h))
 
   pub requests-left : S6 now
   requests-left =
@@ -153,15 +140,9 @@ module _ {rs : List Row} {t summary account broker : Row} {cs : List Closing}
   no-higher : (x : Row) → (higher x (historyOf t n) ≡ true → ⊥) → count (higher x) now ≤ count (higher x) rs
   no-higher x none =
       after-fewer r n space (higher x)
-      (by-kind r n (Fewer (higher x)) kindTradeHistory (higher x) only (refl, refl, refl, refl) (λ w a b h. no b h)
+      (by-kind r n (Fewer (higher x)) kindTradeHistory (higher x) (λ y d. rw (ne-eqb (y .kind) kindTradeHistory d))
+      (refl, refl, refl, refl) (λ w a b h. no b h)
       (λ e h. absurd (none h)) (no refl) (no refl) (no refl) (no refl) (no refl))
-    where
-      only : (y : Row) → higher x y ≡ true → y .kind ≡ kindTradeHistory
-      only y h = go (is kindTradeHistory y) refl
-        where
-          go : (c : Bool) → is kindTradeHistory y ≡ c → y .kind ≡ kindTradeHistory
-          go true q = eqb-true (y .kind) kindTradeHistory q
-          go false q = absurd (false≢true (rw q at h))
 
   higher-still : (y : Row) → higher (done r n s-own space) y ≡ true → higher t y ≡ true
   higher-still y h =

@@ -22,11 +22,11 @@ use Rattle.model.specs.Rows.{found, hasKey, is, nothing, sameRow}
 use Rattle.model.specs.SoundMeans.{Each, S2}
 use Rattle.tables.specs.Found.{own-number}
 use Rattle.tables.specs.Names.{by-id, idKinds}
-use Rattle.result.specs.Apart.{key-kind}
 use Rattle.result.specs.Own.{Read, Sums, added, brokerWrite, tradeWrite}
 use Rattle.result.specs.Place.{frees}
 use Rattle.result.specs.Rows.{accountChanges, closedLots, closingRows, finalRows, lotChanges, openingRows}
 use Rattle.result.specs.Rows.{summaryChanges, summaryGone, summaryRows}
+use Rattle.feed.specs.Steps.{key-of, kind-of}
 use Rattle.kept.specs.Cases.{no, not-so}
 use Rattle.kept.specs.ResultAfter.{added-comes, after, after-each, quiet-found, turned-comes}
 use Rattle.kept.specs.ResultBase.{all}
@@ -92,7 +92,7 @@ module _ {rs : List Row} {t summary account broker : Row} {cs : List Closing}
   pub others : (k : ℕ) → among k idKinds ≡ true → Aside k → eqb kindTradeHistory k ≡ false → eqb kindAccount k ≡ false
       → eqb kindBroker k ≡ false → (i : ℕ) → (t .id ≡ i → ⊥) → All (Quiet (hasKey (byId k i))) (all r n)
   others k known a h c b i ne =
-      by-kind r n (Quiet p) k p (key-kind (byId k i)) a (λ w x y. (x, y)) (no h)
+      by-kind r n (Quiet p) k p (key-of (byId k i)) a (λ w x y. (x, y)) (no h)
       (λ e. (free, other-number k known i (settlementOf t n) ne))
       (λ e z. (free, other-number k known i (cashOf t n) ne))
       (no c)
@@ -103,7 +103,7 @@ module _ {rs : List Row} {t summary account broker : Row} {cs : List Closing}
       p = hasKey (byId k i)
 
       free : p nothing ≡ false
-      free = not-so (p nothing) (λ e. eqb-false kindFree k (a .0) (key-kind (byId k i) nothing e))
+      free = key-of (byId k i) nothing (eqb-false kindFree k (a .0))
 
   pub trade-other : (i : ℕ) → (t .id ≡ i → ⊥) → found (aTrade i) left ≡ found (aTrade i) rs
   trade-other i ne =
@@ -119,7 +119,7 @@ module _ {rs : List Row} {t summary account broker : Row} {cs : List Closing}
           after-each r n space (λ (y : Row). y .kind ≡ kindTrade → (t .id ≡ y .id → ⊥) → List·Memᴰ y rs)
           (λ y k h ne. k)
           (by-kind r n (λ (w : Row × Row). w .1 .kind ≡ kindTrade → (t .id ≡ w .1 .id → ⊥) → List·Memᴰ (w .1) rs)
-          kindTrade (is kindTrade) (λ y h. eqb-true (y .kind) kindTrade h) (refl, refl, refl, refl)
+          kindTrade (is kindTrade) (kind-of kindTrade) (refl, refl, refl, refl)
           (λ w a b h ne. absurd (eqb-false (w .1 .kind) kindTrade b h)) (no refl) (no refl) (no refl) (no refl)
           (λ q h ne. absurd (ne refl))
           (no refl))

@@ -28,8 +28,8 @@ use Rattle.laws.specs.Puts.{news, olds}
 use Rattle.reorder.specs.Agree.{Agree, the-total}
 use Rattle.reorder.specs.Cases.{by-cases, clash}
 use Rattle.reorder.specs.SameView.{key-once}
-use Rattle.reorder.specs.Step.{Done, Note, Refused, broker-has, done-live, done-sound, done-total, outcome}
-use Rattle.reorder.specs.Step.{seen, step, step-cases, step-length}
+use Rattle.reorder.specs.Step.{Done, Note, Refused, broker-has, done-live, done-sound, done-total, outcome, seen}
+use Rattle.reorder.specs.Step.{step, step-cases, step-length}
 use Rattle.reorder.specs.Whose.{mine, not-broker, not-free, not-other, whose}
 use Rattle.reorder.specs.Writes.{Its, Turn, all-turns, partyIf}
 

@@ -15,8 +15,8 @@ use Rattle.rules.specs.Rules.{resultInput}
 use Rattle.model.specs.declared.Status.{Status}
 use Rattle.model.specs.declared.Status.the-variants.{BadInput, Done, NoRoom, OverLimit}
 use Rattle.model.specs.Call.{isDone}
-use Rattle.model.specs.Plan.{Outcome, Plan, Posting, accepted, finished, limited, pick, post, posted, refuse}
-use Rattle.model.specs.Plan.{refused, room}
+use Rattle.model.specs.Plan.{Outcome, Plan, Posting, accepted, finished, limited, pick, post, posted, refuse, refused}
+use Rattle.model.specs.Plan.{room}
 use Rattle.model.specs.Result.{Figures, View, brokerAfter, figures, finish, plan, posting, result, view}
 use Rattle.model.specs.Rows.{sameRow}
 use Rattle.kept.specs.Posted.{writes}

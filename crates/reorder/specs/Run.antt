@@ -22,8 +22,7 @@ use Rattle.model.specs.SoundMeans.{means-s1, means-sound}
 use Rattle.shelf.specs.Put.{clean-fit, row-itself, same-rows}
 use Rattle.tables.specs.Names.{by-party}
 use Rattle.result.specs.Apart.{found-live, found-member}
-use Rattle.laws.specs.Puts.{count-less, the-one}
-use Rattle.laws.specs.Puts.{is-counted, member}
+use Rattle.laws.specs.Puts.{count-less, is-counted, member, the-one}
 use Rattle.reorder.specs.Cases.{by-cases, clash}
 use Rattle.reorder.specs.Inv.{Inv, inv-step, nameless, namelessNote}
 use Rattle.reorder.specs.SameView.{key-once}

@@ -2,7 +2,7 @@
 -- the same of both. Assumes nothing.
 use mathlib.Core.Path.{_≡_, refl, sym, ap, _∙_}
 use mathlib.Core.Bool.{Bool, true, false, cond, not, _&&_}
-use mathlib.Core.List.{List, []}
+use mathlib.Core.List.{List}
 use mathlib.Core.Logic.{⊎-elim}
 use Prim.Native.Nat.{ℕ, _≤_}
 use native.Mathlib.Omega.{arith}
@@ -12,8 +12,8 @@ use Rattle.laws.specs.Keep.{count-one, the-has}
 use Rattle.laws.specs.Place.{the-passes}
 use Rattle.laws.specs.Search.{count, the, total}
 use Rattle.laws.specs.Tests.{Means, _⇔_, and-both, and-left, and-right, means-and, means-eq, means-le}
-use Rattle.record.specs.Codes.{kindAccount, kindBand, kindCustomerRate, kindFree, kindLot}
-use Rattle.record.specs.Codes.{kindLotHistory, kindSummary, kindTrade}
+use Rattle.record.specs.Codes.{kindAccount, kindBand, kindCustomerRate, kindFree, kindLot, kindLotHistory, kindSummary}
+use Rattle.record.specs.Codes.{kindTrade}
 use Rattle.record.specs.Key.{among, keyOf}
 use Rattle.record.specs.KeyLaws.{same-keys}
 use Rattle.record.specs.declared.key.Key.{Key}
@@ -35,8 +35,8 @@ use Rattle.reorder.specs.Agree.{Agree, the-agree, total-agree}
 use Rattle.reorder.specs.Cases.{by-cases, clash, cond-no}
 use Rattle.reorder.specs.Earlier.{before-both, before-total, before-trans}
 use Rattle.reorder.specs.Sorted.{sort-agree}
-use Rattle.reorder.specs.Whose.{aside, byParty, byTrade, mine, mine-none}
-use Rattle.reorder.specs.Whose.{mine-own, whose-none, whose-party, whose-trade}
+use Rattle.reorder.specs.Whose.{aside, byParty, byTrade, mine, mine-none, mine-own, whose-none, whose-party}
+use Rattle.reorder.specs.Whose.{whose-trade}
 
 -- S2: a key has one row at most
 key-of : (k : Key) (x : Row) → hasKey k x ≡ true → keyOf x ≡ k

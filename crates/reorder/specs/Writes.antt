@@ -23,9 +23,9 @@ use Rattle.model.specs.Names.{aTrade}
 use Rattle.model.specs.Result.{Figures, View, leftOf, posting, signed}
 use Rattle.model.specs.Rows.{hasKey, is, nothing}
 use Rattle.result.specs.Apart.{all-closings}
-use Rattle.result.specs.Rows.{accountChanges, closedLots, closingRows, finalRows, gone, holding, lotChanges}
-use Rattle.result.specs.Rows.{lotHistory, openingRows, reduced, summaryChanges, summaryGone, summaryRows, summedShares}
-use Rattle.result.specs.Rows.{cashRow, newLot, newSummary, settlementRow, tradeAfter, tradeHistory}
+use Rattle.result.specs.Rows.{accountChanges, cashRow, closedLots, closingRows, finalRows, gone, holding, lotChanges}
+use Rattle.result.specs.Rows.{lotHistory, newLot, newSummary, openingRows, reduced, settlementRow, summaryChanges}
+use Rattle.result.specs.Rows.{summaryGone, summaryRows, summedShares, tradeAfter, tradeHistory}
 use Rattle.kept.specs.Posted.{adds, frees, writes}
 use Rattle.reorder.specs.Whose.{byParty, byTrade, whose, whose-history, whose-party, whose-trade}
 
