@@ -119,7 +119,7 @@ at-kind [] h k r e = absurd (false≢true e)
 at-kind (t ∷ ts) h zero r e = h t (List·Memᴰ·head refl) r e
 at-kind (t ∷ ts) h (suc k) r e = at-kind ts (λ u m. h u (List·Memᴰ·tail m)) k r e
 
-pub fits-sized : (r : Row) → fits r ≡ true → Sized r
+fits-sized : (r : Row) → fits r ≡ true → Sized r
 unfolding fits
 fits-sized r e = at-kind rules each-sized (r .kind) r e
 

@@ -25,6 +25,7 @@ use Rattle.model.specs.Rows.{found, hasKey, is, nothing, sameRow}
 use Rattle.model.specs.SoundMeans.{Each}
 use Rattle.shelf.specs.Put.{same-rows}
 use Rattle.feed.specs.Steps.{key-of}
+use Rattle.kept.specs.Cases.{by-cases}
 use Rattle.kept.specs.FeedLaws.{all-put, map-map-same, map-put, sum-map, the-map, the-put}
 use Rattle.kept.specs.FeedSteps.{Leads, historyFor, sent}
 use Rattle.laws.specs.Puts.{count-less}
@@ -34,12 +35,10 @@ abbrev pub sweep : List Row → Row → Row
 sweep m r = cond (is kindRequest r && not (waits m r)) nothing r
 
 pub sweep-either : (m : List Row) (r : Row) → (sweep m r ≡ r) ⊎ ((sweep m r ≡ nothing) × (r .kind ≡ kindRequest))
-sweep-either m r = go (is kindRequest r && not (waits m r)) refl
-  where
-    go : (t : Bool) → (is kindRequest r && not (waits m r)) ≡ t
-        → (sweep m r ≡ r) ⊎ ((sweep m r ≡ nothing) × (r .kind ≡ kindRequest))
-    go true e = inr (rw e, eqb-true (r .kind) kindRequest (and-left (is kindRequest r) (not (waits m r)) e))
-    go false e = inl (rw e)
+sweep-either m r =
+    by-cases (is kindRequest r && not (waits m r))
+    (λ e. inr (rw e, eqb-true (r .kind) kindRequest (and-left (is kindRequest r) (not (waits m r)) e)))
+    (λ e. inl (rw e))
 
 -- what is counted at the end of a feed
 pub swept-same : (m : List Row) (p : Row → Bool) → ((r : Row) → r .kind ≡ kindRequest → p nothing ≡ p r)

@@ -28,6 +28,7 @@ use Rattle.tables.specs.Found.{own-number}
 use Rattle.tables.specs.Names.{ofId}
 use Rattle.feed.specs.Steps.{key-of}
 use Rattle.result.specs.Apart.{own-key}
+use Rattle.kept.specs.Cases.{by-cases}
 use Rattle.kept.specs.FeedCalm.{sent-key, sweep, sweep-either, swept-fewer, swept-same, traded-key}
 use Rattle.kept.specs.FeedLaws.{all-put, put-has}
 use Rattle.kept.specs.FeedSteps.{Keeps, Leads, Sends, Trades, afterSend, afterTrade, historyFor, sent}
@@ -35,7 +36,7 @@ use Rattle.kept.specs.ResultFresh.{not-yet, one-key}
 use Rattle.laws.specs.Puts.{count-less, is-counted, put-total}
 
 -- no key is there twice
-abbrev pub Keys : List Row → Type 0
+abbrev Keys : List Row → Type 0
 Keys l = (k : Key) → (k .kind ≡ kindFree → ⊥) → count (hasKey k) l ≤ 1
 
 abbrev HistoryRight : List Row → Row → Type 0
@@ -170,20 +171,19 @@ module _ (l : List Row) (e t : Row) (q : Sends l e t) (u : Keys l) (s7 : S7 l) w
       (all-put sameRow same-rows nothing added P (λ k n. absurd (omega arith)) l (λ x i k n. i))
 
   send-histories : S7 (afterSend l e t)
-  send-histories x i k = go (eqb (t .id) (x .id)) refl
-    where
-      go : (b : Bool) → eqb (t .id) (x .id) ≡ b → HistoryRight (afterSend l e t) x
-      go true y =
-          let key = aTrade (t .id) in
-          let mine = own-number kindTrade refl (t .id) (sent e t) (eq-eqb (t .kind) kindTrade (q .kind)) refl in
-          let its =
-          own-number kindTrade refl (t .id) x (eq-eqb (x .kind) kindTrade k) (sym (eqb-true (t .id) (x .id) y))
-          in
-          subst (HistoryRight (afterSend l e t))
-          (count-one (hasKey key) (sent e t) x (afterSend l e t) (send-keys key (λ z. omega arith)) sent-here i mine
-          its)
-          sent-right
-      go false y = other-right x (was-there x i k y) k y
+  send-histories x i k =
+      by-cases (eqb (t .id) (x .id))
+      (λ y.
+      let key = aTrade (t .id) in
+      let mine = own-number kindTrade refl (t .id) (sent e t) (eq-eqb (t .kind) kindTrade (q .kind)) refl in
+      let its =
+      own-number kindTrade refl (t .id) x (eq-eqb (x .kind) kindTrade k) (sym (eqb-true (t .id) (x .id) y))
+      in
+      subst (HistoryRight (afterSend l e t))
+      (count-one (hasKey key) (sent e t) x (afterSend l e t) (send-keys key (λ z. omega arith)) sent-here i mine
+      its)
+      sent-right)
+      (λ y. other-right x (was-there x i k y) k y)
 
 keeps-both : Keeps (λ (l : List Row). Keys l × S7 l)
 keeps-both = record {
@@ -201,17 +201,16 @@ module _ {rs m : List Row} (book : SoundBook rs) (lead : Leads rs m) where
 
   pub s2-feed : S2 (swept m)
   unfolding keyOf
-  s2-feed x i = go (is kindFree x) refl
-    where
-      go : (b : Bool) → is kindFree x ≡ b → (x .kind ≡ kindFree) ⊎ (count (hasKey (keyOf x)) (swept m) ≡ 1)
-      go true y = inl (eqb-true (x .kind) kindFree y)
-      go false y =
-          let k = keyOf x in
-          let live : k .kind ≡ kindFree → ⊥ = eqb-false (x .kind) kindFree y in
-          let few = swept-fewer m (hasKey k) (no-key k live) in
-          let most = fed-keys k live in
-          let some = count-has (hasKey k) x (swept m) i (own-key x) in
-          inr (omega arith)
+  s2-feed x i =
+      by-cases (is kindFree x)
+      (λ y. inl (eqb-true (x .kind) kindFree y))
+      (λ y.
+      let k = keyOf x in
+      let live : k .kind ≡ kindFree → ⊥ = eqb-false (x .kind) kindFree y in
+      let few = swept-fewer m (hasKey k) (no-key k live) in
+      let most = fed-keys k live in
+      let some = count-has (hasKey k) x (swept m) i (own-key x) in
+      inr (omega arith))
 
   pub s7-feed : S7 (swept m)
   unfolding swept

@@ -30,6 +30,7 @@ use Rattle.feed.specs.Steps.{key-of, submits-keep, traded-keeps}
 use Rattle.feed.specs.Volumes.{there-next, volume-after, volume-next}
 use Rattle.result.specs.Apart.{found-kind}
 use Rattle.laws.specs.Puts.{count-less, put-total}
+use Rattle.kept.specs.Cases.{by-cases, not-so}
 use Rattle.kept.specs.ResultTrades.{number-is}
 
 -- the history row of a trade that an entry submits, and the trade then
@@ -78,13 +79,12 @@ module _ (rs : List Row) (i : ℕ) (p : pends rs i ≡ true) where
   is-pending = eqb-true (found (aTrade i) rs .status) pending p
 
   is-there : there (aTrade i) rs ≡ true
-  is-there = go (there (aTrade i) rs) refl
-    where
-      go : (t : Bool) → there (aTrade i) rs ≡ t → there (aTrade i) rs ≡ true
-      go true e = e
-      go false e =
-          let z : _≡_ {A = ℕ} 0 1 = ap (λ (r : Row). r .status) (sym (found-none (aTrade i) rs e)) ∙ is-pending in
-          absurd (omega arith)
+  is-there =
+      by-cases (there (aTrade i) rs)
+      (λ e. e)
+      (λ e.
+      let z : _≡_ {A = ℕ} 0 1 = ap (λ (r : Row). r .status) (sym (found-none (aTrade i) rs e)) ∙ is-pending in
+      absurd (omega arith))
 
 -- ---- one trade is submitted
 module _ (e : Row) (rs : List Row) (r : Row) (p : pends rs (r .id) ≡ true) where
@@ -128,15 +128,13 @@ Apart ts = (i : ℕ) → count (λ (t : Row). eqb (t .id) i) ts ≤ 1
 
 apart-head : (r : Row) (ts : List Row) → Apart (r ∷ ts) → (t : Row) → List·Memᴰ t ts → eqb (r .id) (t .id) ≡ false
 unfolding count total
-apart-head r ts a t m = go (eqb (r .id) (t .id)) refl
-  where
-    go : (b : Bool) → eqb (r .id) (t .id) ≡ b → eqb (r .id) (t .id) ≡ false
-    go true q =
-        let one = ap bit q in
-        let two = count-has (λ (x : Row). eqb (x .id) (t .id)) t ts m (eq-eqb (t .id) (t .id) refl) in
-        let most = a (t .id) in
-        absurd (omega arith)
-    go false q = q
+apart-head r ts a t m =
+    not-so (eqb (r .id) (t .id))
+    (λ q.
+    let one = ap bit q in
+    let two = count-has (λ (x : Row). eqb (x .id) (t .id)) t ts m (eq-eqb (t .id) (t .id) refl) in
+    let most = a (t .id) in
+    omega arith)
 
 apart-tail : (r : Row) (ts : List Row) → Apart (r ∷ ts) → Apart ts
 unfolding count total

@@ -14,6 +14,7 @@ use Rattle.laws.specs.Search.{count, sumZ, the, total}
 use Rattle.record.specs.declared.row.Row.{Row}
 use Rattle.model.specs.Rows.{nothing, sameRow}
 use Rattle.shelf.specs.Put.{row-itself, same-rows}
+use Rattle.kept.specs.Cases.{by-cases}
 use Rattle.kept.specs.Posted.{adds}
 use Rattle.laws.specs.Puts.{Inside, Quiet, count-length, count-no, each-row, has-come, mem-map, news, olds, puts-count}
 use Rattle.laws.specs.Puts.{puts-total, the-puts}
@@ -58,18 +59,17 @@ module _ (rs hs : List Row) (space : length hs ≤ count (sameRow nothing) rs) w
       ∙ count-map (λ (w : Row × Row). p (w .1)) (λ (h : Row). (nothing, h)) hs
 
   inside : Inside sameRow (adds hs) rs
-  inside x = go (sameRow x nothing) refl
-    where
-      go : (b : Bool) → sameRow x nothing ≡ b → count (sameRow x) (olds (adds hs)) ≤ count (sameRow x) rs
-      go true e =
-          let q : x ≡ nothing = same-rows x nothing e in
-          let a = places (sameRow nothing) in
-          let b = count-length (λ (h : Row). sameRow nothing nothing) hs in
-          rw q (omega arith)
-      go false e =
-          let a = places (sameRow x) in
-          let b = count-none (λ (h : Row). sameRow x nothing) hs (λ h. e) in
-          omega arith
+  inside x =
+      by-cases (sameRow x nothing)
+      (λ e.
+      let q : x ≡ nothing = same-rows x nothing e in
+      let a = places (sameRow nothing) in
+      let b = count-length (λ (h : Row). sameRow nothing nothing) hs in
+      rw q (omega arith))
+      (λ e.
+      let a = places (sameRow x) in
+      let b = count-none (λ (h : Row). sameRow x nothing) hs (λ h. e) in
+      omega arith)
 
   pub grown-each : (P : Row → Type 0) → All P rs → All P hs → All P (grown rs hs)
   grown-each P old new =

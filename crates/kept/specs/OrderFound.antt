@@ -32,7 +32,7 @@ not-done false = refl
 module _ {rs : List Row} {input : Row} {broker number price charge commission : ℕ}
     (o : Taken rs input broker number price charge commission) where
   -- ---- what a number finds
-  pub trade-same : (i : ℕ) → (i ≡ number → ⊥) → found (aTrade i) (left o) ≡ found (aTrade i) rs
+  trade-same : (i : ℕ) → (i ≡ number → ⊥) → found (aTrade i) (left o) ≡ found (aTrade i) rs
   unfolding found
   trade-same i ne =
       still-the rs (added o) (o .space) (hasKey (aTrade i)) (off-key (aTrade i) nothing refl) (others o (aTrade i) ne)

@@ -31,6 +31,7 @@ use Rattle.tables.specs.Names.{of-five}
 use Rattle.result.specs.Apart.{key-kind}
 use Rattle.order.specs.Post.{addedRows, historyRow, requestRow, tradeRow}
 use Rattle.laws.specs.Puts.{count-no}
+use Rattle.kept.specs.Cases.{not-so}
 use Rattle.kept.specs.ResultTrades.{number-is}
 
 -- ---- the largest
@@ -153,15 +154,13 @@ module _ {rs : List Row} {input : Row} {broker number price charge commission : 
 
   pub not-numbered : (k : Key) → among (k .kind) byId ≡ true → k .id ≡ number → (x : Row) → List·Memᴰ x rs
       → hasKey k x ≡ false
-  not-numbered k known e x m = go (hasKey k x) refl
-    where
-      go : (b : Bool) → hasKey k x ≡ b → hasKey k x ≡ false
-      go true q =
-          let h = key-number k x known q in
-          let below = number-below x m (h .0) in
-          let z = h .1 in
-          absurd (omega arith)
-      go false q = q
+  not-numbered k known e x m =
+      not-so (hasKey k x)
+      (λ q.
+      let h = key-number k x known q in
+      let below = number-below x m (h .0) in
+      let z = h .1 in
+      omega arith)
 
   pub none-numbered : (k : Key) → among (k .kind) byId ≡ true → k .id ≡ number → count (hasKey k) rs ≡ 0
   none-numbered k known e = count-no (hasKey k) rs (not-numbered k known e)
@@ -170,11 +169,9 @@ module _ {rs : List Row} {input : Row} {broker number price charge commission : 
   pub other-numbered : (k : Key) → (k .id ≡ number → ⊥) → (h : Row) → among (h .kind) byId ≡ true → h .id ≡ number
       → hasKey k h ≡ false
   unfolding hasKey keyOf
-  other-numbered k ne h known e = go (hasKey k h) refl
-    where
-      go : (b : Bool) → hasKey k h ≡ b → hasKey k h ≡ false
-      go true q =
-          let i : cond (among (h .kind) byId) (h .id) 0 ≡ k .id = ap (λ (y : Key). y .id) (same-keys (keyOf h) k q) in
-          let j : h .id ≡ k .id = rw known at i in
-          absurd (ne (sym j ∙ e))
-      go false q = q
+  other-numbered k ne h known e =
+      not-so (hasKey k h)
+      (λ q.
+      let i : cond (among (h .kind) byId) (h .id) 0 ≡ k .id = ap (λ (y : Key). y .id) (same-keys (keyOf h) k q) in
+      let j : h .id ≡ k .id = rw known at i in
+      ne (sym j ∙ e))

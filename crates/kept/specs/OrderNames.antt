@@ -23,7 +23,7 @@ use Rattle.model.specs.SoundMeans.{S2, S3, S4, S5, There}
 use Rattle.tables.specs.Found.{own-number}
 use Rattle.result.specs.Apart.{found-kind, found-member, names-broker, other-kind, own-key}
 use Rattle.feed.specs.Steps.{OfKind, key-of, kind-of}
-use Rattle.kept.specs.Cases.{no, not-so}
+use Rattle.kept.specs.Cases.{by-cases, no, not-so}
 use Rattle.kept.specs.Looks.{rates-alike}
 use Rattle.kept.specs.OrderAdds.{grown, grown-comes, grown-count, grown-each, grown-total, still-count}
 use Rattle.kept.specs.OrderAdds.{still-the, still-was}
@@ -32,7 +32,7 @@ use Rattle.kept.specs.OrderFresh.{not-numbered, request, trade}
 use Rattle.kept.specs.ResultNames.{named-aside}
 
 -- a kind of rows that an order does not add
-abbrev pub Off : ℕ → Type 0
+abbrev Off : ℕ → Type 0
 Off k =
     (eqb kindFree k ≡ false) × (eqb kindTrade k ≡ false) × (eqb kindTradeHistory k ≡ false)
     × (eqb kindRequest k ≡ false)
@@ -58,10 +58,10 @@ module _ {rs : List Row} {input : Row} {broker number price charge commission : 
 
   -- ---- rows of kinds that are not added
   module _ (k : ℕ) (off : Off k) (p : Row → Bool) (only : OfKind k p) where
-    pub off-row : (x : Row) → eqb (x .kind) k ≡ false → p x ≡ false
+    off-row : (x : Row) → eqb (x .kind) k ≡ false → p x ≡ false
     off-row x e = only x (eqb-false (x .kind) k e)
 
-    pub off-added : All (λ (h : Row). p h ≡ false) (added o)
+    off-added : All (λ (h : Row). p h ≡ false) (added o)
     off-added =
         each-added o (λ h. p h ≡ false) (off-row (trade o) (off .1)) (off-row (history o) (off .2))
         (λ e. off-row (request o) (off .3))
@@ -69,10 +69,10 @@ module _ {rs : List Row} {input : Row} {broker number price charge commission : 
     pub off-count : count p left ≡ count p rs
     off-count = still-count rs (added o) (o .space) p (off-row nothing (off .0)) off-added
 
-    pub off-the : (d : Row) → the p d left ≡ the p d rs
+    off-the : (d : Row) → the p d left ≡ the p d rs
     off-the = still-the rs (added o) (o .space) p (off-row nothing (off .0)) off-added
 
-    pub off-was : (x : Row) → List·Memᴰ x left → p x ≡ true → List·Memᴰ x rs
+    off-was : (x : Row) → List·Memᴰ x left → p x ≡ true → List·Memᴰ x rs
     off-was = still-was rs (added o) (o .space) p (off-row nothing (off .0)) off-added
 
   pub of-off : (k : ℕ) → Off k → (x : Row) → List·Memᴰ x left → x .kind ≡ k → List·Memᴰ x rs
@@ -133,16 +133,15 @@ module _ {rs : List Row} {input : Row} {broker number price charge commission : 
       (λ e. inr (own (request o) refl refl refl (one-request e))))
     where
       old : All Once rs
-      old x m = go (is kindFree x) refl
-        where
-          go : (b : Bool) → is kindFree x ≡ b → Once x
-          go true e = inl (eqb-true (x .kind) kindFree e)
-          go false e =
-              let live = eqb-false (x .kind) kindFree e in
-              let free = ne-eqb kindFree (x .kind) (λ z. live (sym z)) in
-              inr
-              (still-count rs (added o) (o .space) (hasKey (keyOf x)) (off-key (keyOf x) nothing free) (old-key x m)
-              ∙ ⊎-elim (λ f. absurd (live f)) (λ c. c) (book o .s2 x m))
+      old x m =
+          by-cases (is kindFree x)
+          (λ e. inl (eqb-true (x .kind) kindFree e))
+          (λ e.
+          let live = eqb-false (x .kind) kindFree e in
+          let free = ne-eqb kindFree (x .kind) (λ z. live (sym z)) in
+          inr
+          (still-count rs (added o) (o .space) (hasKey (keyOf x)) (off-key (keyOf x) nothing free) (old-key x m)
+          ∙ ⊎-elim (λ f. absurd (live f)) (λ c. c) (book o .s2 x m)))
 
   -- ---- S3
   -- a key that is there stays

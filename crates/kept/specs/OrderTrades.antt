@@ -21,6 +21,7 @@ use Rattle.model.specs.Sound.{higher}
 use Rattle.model.specs.SoundMeans.{S6, S7, There}
 use Rattle.tables.specs.Found.{own-number}
 use Rattle.result.specs.Apart.{own-key}
+use Rattle.kept.specs.Cases.{by-cases}
 use Rattle.kept.specs.Looks.{agrees-not, agrees-of, agreesBy}
 use Rattle.kept.specs.OrderAdds.{grown-comes, grown-count, grown-each, still-count}
 use Rattle.kept.specs.OrderFresh.{Taken, added, book, count-added, each-added, history, none-numbered}
@@ -161,14 +162,13 @@ module _ {rs : List Row} {input : Row} {broker number price charge commission : 
   )
     where
       low : All (λ (x : Row). higher (trade o) x ≡ false) rs
-      low x m = go (is kindTradeHistory x) refl
-        where
-          go : (b : Bool) → is kindTradeHistory x ≡ b → higher (trade o) x ≡ false
-          go true e =
-              let kind = eqb-true (x .kind) kindTradeHistory e in
-              let ne = ne-eqb (x .id) number (other x m (rw kind)) in
-              rw (e, ne)
-          go false e = rw e
+      low x m =
+          by-cases (is kindTradeHistory x)
+          (λ e.
+          let kind = eqb-true (x .kind) kindTradeHistory e in
+          let ne = ne-eqb (x .id) number (other x m (rw kind)) in
+          rw (e, ne))
+          (λ e. rw e)
 
       level : higher (trade o) (history o) ≡ false
       level = rw (eq-eqb number number refl) (le-ltb (firstStatus input) (firstStatus input) (omega arith))

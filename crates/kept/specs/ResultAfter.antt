@@ -1,8 +1,8 @@
 -- The rows that a result leaves: those of kinds that it does not write are as they were, and every key is there still
 -- but those of lots and summaries. Assumes nothing.
-use mathlib.Core.Path.{_≡_, refl, sym, ap, _∙_}
+use mathlib.Core.Path.{_≡_, sym, ap, _∙_}
 use mathlib.Core.Bool.{Bool, true, false}
-use mathlib.Core.List.{List, [], _∷_, List·Memᴰ, List·Memᴰ·head, List·Memᴰ·tail, Memᴰ·append-left, Memᴰ·append-right}
+use mathlib.Core.List.{List, List·Memᴰ, Memᴰ·append-left, Memᴰ·append-right}
 use Prim.Native.Nat.{ℕ, _≤_}
 use native.Mathlib.Omega.{arith}
 use lib.Dec.{eqb}
@@ -23,11 +23,10 @@ use Rattle.result.specs.Apart.{broker-key, holding-key, key-kind, trade-key}
 use Rattle.result.specs.Own.{Read, Sums, added, brokerWrite, tradeWrite, writes}
 use Rattle.feed.specs.Steps.{OfKind, key-of, kind-of}
 use Rattle.kept.specs.Cases.{no}
-use Rattle.kept.specs.Posted.{adds}
+use Rattle.kept.specs.Posted.{adds, same-sums}
 use Rattle.kept.specs.ResultBase.{all, all-inside}
 use Rattle.kept.specs.ResultEach.{Aside, by-kind}
-use Rattle.laws.specs.Puts.{Inside, More, Quiet, each-row, has-come, mem-map, news, no-fewer, no-more, olds}
-use Rattle.laws.specs.Puts.{puts-total, the-puts}
+use Rattle.laws.specs.Puts.{Inside, More, Quiet, each-row, has-come, mem-map, no-fewer, no-more, puts-total, the-puts}
 
 -- a kind of rows that a result does not write
 abbrev pub Still : ℕ → Type 0
@@ -36,16 +35,7 @@ Still k =
     × ((eqb kindTradeHistory k ≡ false) × (eqb kindSettlement k ≡ false) × (eqb kindCash k ≡ false)
     × (eqb kindAccount k ≡ false) × (eqb kindTrade k ≡ false) × (eqb kindBroker k ≡ false))
 
-same-sums : {A : Type 0} (μ : A → ℕ) (ws : List (A × A)) → All (λ (w : A × A). μ (w .0) ≡ μ (w .1)) ws
-    → total μ (olds ws) ≡ total μ (news ws)
-unfolding total
-same-sums μ [] h = refl
-same-sums μ (w ∷ ws) h =
-    let a = h w (List·Memᴰ·head refl) in
-    let b = same-sums μ ws (λ v m. h v (List·Memᴰ·tail m)) in
-    omega arith
-
-pub key-alike : (k : Key) (o x : Row) → keyOf x ≡ keyOf o → hasKey k x ≡ hasKey k o
+key-alike : (k : Key) (o x : Row) → keyOf x ≡ keyOf o → hasKey k x ≡ hasKey k o
 unfolding hasKey
 key-alike k o x e = ap (λ (y : Key). sameKey y k) e
 
@@ -73,7 +63,7 @@ module _ {rs : List Row} {t summary account broker : Row} {cs : List Closing}
   pub turned-comes : (w : Row × Row) → List·Memᴰ w (writes t summary account broker cs n) → List·Memᴰ (w .1) after
   turned-comes w m = after-comes w (Memᴰ·append-right (adds (added t summary cs n)) m)
 
-  pub after-more : (p : Row → Bool) → All (More p) (all r n) → count p rs ≤ count p after
+  after-more : (p : Row → Bool) → All (More p) (all r n) → count p rs ≤ count p after
   after-more = no-fewer sameRow same-rows row-itself (all r n) rs inside
 
   pub after-fewer : (p : Row → Bool) → All (λ (w : Row × Row). p (w .1) ≡ true → p (w .0) ≡ true) (all r n)
@@ -88,10 +78,10 @@ module _ {rs : List Row} {t summary account broker : Row} {cs : List Closing}
         let b = after-fewer p (λ w m e. no (quiet w m .1) e) in
         omega arith
 
-    pub quiet-the : (d : Row) → the p d after ≡ the p d rs
+    quiet-the : (d : Row) → the p d after ≡ the p d rs
     quiet-the d = the-puts sameRow same-rows p d (all r n) rs quiet
 
-    pub quiet-was : (x : Row) → List·Memᴰ x after → p x ≡ true → List·Memᴰ x rs
+    quiet-was : (x : Row) → List·Memᴰ x after → p x ≡ true → List·Memᴰ x rs
     quiet-was =
         after-each (λ (x : Row). p x ≡ true → List·Memᴰ x rs) (λ x m e. m)
         (λ w m e. no (quiet w m .1) e)

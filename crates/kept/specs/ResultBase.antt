@@ -96,15 +96,17 @@ accepted-all rs input =
     }
 
 -- a free place of a sound book holds nothing
+pub free-nothing : (rs : List Row) → sound rs ≡ true → (x : Row) → List·Memᴰ x rs → x .kind ≡ kindFree → x ≡ nothing
+free-nothing rs good x m e =
+    clean-fit (x ∷ []) (means-s1 (x ∷ []) .holds (all-one Fits x (means-sound rs .shows good .s1 x m))) 0 e
+
 pub room-is : (rs : List Row) → sound rs ≡ true → room rs ≡ count (sameRow nothing) rs
 unfolding room
 room-is rs good =
     count-on (is kindFree) (sameRow nothing) rs
     (λ x m.
     one-truth (is kindFree x) (sameRow nothing x)
-    (λ h.
-    let alone = means-s1 (x ∷ []) .holds (all-one Fits x (means-sound rs .shows good .s1 x m)) in
-    ap (sameRow nothing) (clean-fit (x ∷ []) alone 0 (eqb-true (x .kind) kindFree h)) ∙ row-itself nothing)
+    (λ h. ap (sameRow nothing) (free-nothing rs good x m (eqb-true (x .kind) kindFree h)) ∙ row-itself nothing)
     (λ h. eq-eqb (x .kind) kindFree (ap (λ (r : Row). r .kind) (sym (same-rows nothing x h)))))
 
 -- ---- each that gives way is there

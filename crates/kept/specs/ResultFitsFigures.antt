@@ -18,6 +18,7 @@ use Rattle.model.specs.Money.{buys, commissionOf, settlementOf, taxOf, taxable}
 use Rattle.lots.specs.Money.{commission-taken, tax-none, tax-taken}
 use Rattle.lots.specs.Walk.{Within, step-within, valueMost}
 use Rattle.result.specs.Signed.{bought-is, difference-near, sold-is, withheld-most}
+use Rattle.kept.specs.Cases.{by-cases}
 
 -- ---- the walk's values
 run-within : (v form price : ℕ) (w : Lots.Walk) (ls : List Row) → price ≤ priceMost
@@ -39,11 +40,10 @@ sold-in-range form price n ls p h m =
 -- ---- tax and commission
 pub tax-in-range : (status rates bought sold : ℕ) → rates ≤ taxPart .high → sold ≤ valueMost
     → taxOf status rates bought sold ≤ fee .high
-tax-in-range status rates bought sold r s = go (taxable status bought sold) refl
-  where
-    go : (b : Bool) → taxable status bought sold ≡ b → taxOf status rates bought sold ≤ fee .high
-    go true e = let h = tax-taken status rates bought sold r s {x = true} (sym e) refl in rw (← h .0) (h .1)
-    go false e = rw (← tax-none status rates bought sold {x = false} (sym e) refl) (omega arith)
+tax-in-range status rates bought sold r s =
+    by-cases (taxable status bought sold)
+    (λ e. let h = tax-taken status rates bought sold r s {x = true} (sym e) refl in rw (← h .0) (h .1))
+    (λ e. rw (← tax-none status rates bought sold {x = false} (sym e) refl) (omega arith))
 
 pub commission-in-range : (rate shares price : ℕ) → rate ≤ commissionPart .high → shares ≤ sharesMost → price ≤ priceMost
     → commissionOf rate shares price ≤ fee .high

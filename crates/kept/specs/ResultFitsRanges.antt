@@ -15,7 +15,7 @@ use Rattle.model.specs.Rows.{nothing}
 use Rattle.kept.specs.ResultLotsSides.{bits-tell}
 
 -- ---- each value in its range
-abbrev pub Bounds : List ℕ → List Range → Type 0
+abbrev Bounds : List ℕ → List Range → Type 0
 Bounds [] gs = Unit {0}
 Bounds (x ∷ xs) [] = Unit {0}
 Bounds (x ∷ xs) (g ∷ gs) = (g .low ≤ x) × (x ≤ g .high) × Bounds xs gs
@@ -43,11 +43,11 @@ pub record Field : Type 0 where
 abbrev pub field : (i x : ℕ) (g : Range) → g .low ≤ x → x ≤ g .high → Field
 field i x g a b = record { place = i; value = x; range = g; least = a; most = b }
 
-abbrev pub valuesPut : List ℕ → List Field → List ℕ
+abbrev valuesPut : List ℕ → List Field → List ℕ
 valuesPut xs [] = xs
 valuesPut xs (f ∷ fs) = valuesPut (set xs (f .place) (f .value)) fs
 
-abbrev pub rangesPut : List Range → List Field → List Range
+abbrev rangesPut : List Range → List Field → List Range
 rangesPut gs [] = gs
 rangesPut gs (f ∷ fs) = rangesPut (set gs (f .place) (f .range)) fs
 

@@ -2,7 +2,7 @@
 use mathlib.Core.Path.{_≡_, refl, sym, ap, subst, _∙_}
 use mathlib.Core.Bool.{Bool, true, false, cond, not}
 use mathlib.Core.List.{List, [], _∷_, _++_, List·Memᴰ}
-use mathlib.Core.Logic.{_⊎_, inl, inr}
+use mathlib.Core.Logic.{inl, inr}
 use Prim.Native.Nat.{ℕ, _+_, _≤_}
 use native.Mathlib.Omega.{arith}
 use lib.Dec.{eqb, leb}
@@ -29,6 +29,7 @@ use Rattle.result.specs.Own
 use Rattle.result.specs.Own.{Read, Sums, added, all-own}
 use Rattle.result.specs.Posted.{of-kind}
 use Rattle.result.specs.Rows.{closingRows, finalRows, openingRows, summaryRows}
+use Rattle.kept.specs.Cases.{by-cases}
 use Rattle.kept.specs.Posted.{adds}
 use Rattle.kept.specs.ResultBase.{all, all-inside}
 use Rattle.kept.specs.ResultEach.{cashOf, closingOf, historyOf, lotOpened, openingOf, settlementOf}
@@ -235,7 +236,7 @@ module _ {rs : List Row} {t summary account broker : Row} {cs : List Closing}
         step : (x a b : ℕ) → a + b ≤ 1 → (a ≤ 1 → x + a ≤ 1) → x + b ≤ 1 → x + (a + b) ≤ 1
         step x a b h e f = let g = e (omega arith) in omega arith
 
-    pub added-once : count (hasKey k) rs + count (hasKey k) (added t summary cs n) ≤ 1
+    added-once : count (hasKey k) rs + count (hasKey k) (added t summary cs n) ≤ 1
     added-once =
         let h1 = closingRows t cs in
         let h2 = openingRows t (n .price) (n .left) (n .time) in
@@ -271,12 +272,10 @@ module _ {rs : List Row} {t summary account broker : Row} {cs : List Closing}
         omega arith
 
     pub keys-left : S2 (puts sameRow (all r n) rs)
-    keys-left x m = go (is kindFree x) refl
-      where
-        go : (b : Bool) → is kindFree x ≡ b
-            → (x .kind ≡ kindFree) ⊎ (count (hasKey (keyOf x)) (puts sameRow (all r n) rs) ≡ 1)
-        go true e = inl (eqb-true (x .kind) kindFree e)
-        go false e =
-            let some = count-has (hasKey (keyOf x)) x (puts sameRow (all r n) rs) m (own-key x) in
-            let most = after-most x e in
-            inr (omega arith)
+    keys-left x m =
+        by-cases (is kindFree x)
+        (λ e. inl (eqb-true (x .kind) kindFree e))
+        (λ e.
+        let some = count-has (hasKey (keyOf x)) x (puts sameRow (all r n) rs) m (own-key x) in
+        let most = after-most x e in
+        inr (omega arith))

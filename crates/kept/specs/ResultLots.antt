@@ -51,7 +51,7 @@ use Rattle.kept.specs.ResultTrades.{unique}
 use lib.ListN.{length}
 
 -- ---- numbers
-pub zero-size : (z : ℤ) → natAbs z ≡ 0 → z ≡ pos 0
+zero-size : (z : ℤ) → natAbs z ≡ 0 → z ≡ pos 0
 zero-size (pos n) e = ap pos e
 zero-size (negsuc n) e = absurd (omega arith)
 
@@ -105,10 +105,10 @@ module _ {rs : List Row} {t summary account broker : Row} {cs : List Closing}
       (sym (key-symbol (t .party) (t .symbol) summary k))
       ∙ book r n .s8 summary (h .0) .1 (h .1) .1)
 
-  pub sum-now : sumZ shareOf now ≡ summed
+  sum-now : sumZ shareOf now ≡ summed
   sum-now = sum-after r n space v ∙ ap (λ (z : ℤ). z +ℤ signed (t .form) (t .n1)) sum-before
 
-  pub summed-bits : toZ w64 (bits64 summed) ≡ summed
+  summed-bits : toZ w64 (bits64 summed) ≡ summed
   summed-bits =
       let k = signed-size (buys (t .form)) (t .n1) in
       let m = v .most in

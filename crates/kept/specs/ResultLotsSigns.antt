@@ -22,6 +22,7 @@ use Rattle.model.specs.Sound.{lotOf, otherSign, sharesOf, short}
 use Rattle.model.specs.SoundMeans.{means-sound}
 use Rattle.result.specs.Own.{Read, Sums, added}
 use Rattle.result.specs.Rows.{reduced}
+use Rattle.kept.specs.Cases.{by-cases}
 use Rattle.kept.specs.ResultAfter.{after}
 use Rattle.kept.specs.ResultLotsLaw.{lots-law}
 use Rattle.kept.specs.ResultLotsSides.{eq-sides, iff-one, iff-other, iff-same, iff-turned, iff-two, part}
@@ -47,7 +48,7 @@ module _ (account symbol : ℕ) (x : Row) (e : lotOf account symbol x ≡ true) 
       eqb-true (x .symbol) symbol (and-right (is kindLot x && eqb (x .party) account) (eqb (x .symbol) symbol) e)
 
 -- it is of no other
-pub not-both : (account symbol a y : ℕ) (x : Row) → (eqb a account && eqb y symbol) ≡ false → lotOf a y x ≡ true
+not-both : (account symbol a y : ℕ) (x : Row) → (eqb a account && eqb y symbol) ≡ false → lotOf a y x ≡ true
     → lotOf account symbol x ≡ false
 not-both account symbol a y x e h =
     rw (lot-party a y x h, lot-symbol a y x h) (go (is kindLot x) (eqb a account) (eqb y symbol) e)
@@ -58,26 +59,26 @@ not-both account symbol a y x e h =
 
 -- one that passes is there where one is counted
 module _ (p : Row → Bool) (l : List Row) (h : 1 ≤ count p l) where
-  pub some-held : List·Memᴰ (the p nothing l) l
+  some-held : List·Memᴰ (the p nothing l) l
   some-held = the-has p nothing l (le-leb 1 (count p l) h)
 
-  pub some-passes : p (the p nothing l) ≡ true
+  some-passes : p (the p nothing l) ≡ true
   some-passes = the-passes p nothing l (le-leb 1 (count p l) h)
 
 -- ---- the signs of an account's lots of a symbol, beside a trade that buys or sells
-abbrev pub yours : Row → Row → Bool
+abbrev yours : Row → Row → Bool
 yours t x = closes (t .form) (t .party) (t .symbol) x
 
-abbrev pub mine : Row → Row → Bool
+abbrev mine : Row → Row → Bool
 mine t x = lotOf (t .party) (t .symbol) x && not (buys (t .form) ⇔ short x)
 
 module _ (t l : Row) (e : lotOf (t .party) (t .symbol) l ≡ true) where
   -- those of the other sign are those of one of the two
-  pub beside-yours : short l ≡ buys (t .form) → (x : Row) → otherSign l x ≡ mine t x
+  beside-yours : short l ≡ buys (t .form) → (x : Row) → otherSign l x ≡ mine t x
   beside-yours s x =
       rw (lot-party (t .party) (t .symbol) l e, lot-symbol (t .party) (t .symbol) l e, s)
 
-  pub beside-mine : short l ≡ not (buys (t .form)) → (x : Row) → otherSign l x ≡ yours t x
+  beside-mine : short l ≡ not (buys (t .form)) → (x : Row) → otherSign l x ≡ yours t x
   beside-mine s x =
       rw (
         lot-party (t .party) (t .symbol) l e,
@@ -87,11 +88,8 @@ module _ (t l : Row) (e : lotOf (t .party) (t .symbol) l ≡ true) where
       )
 
 none-or : (a b : ℕ) → (1 ≤ a → b ≡ 0) → (a ≡ 0) ⊎ (b ≡ 0)
-none-or a b h = go (leb 1 a) refl
-  where
-    go : (c : Bool) → leb 1 a ≡ c → (a ≡ 0) ⊎ (b ≡ 0)
-    go true e = inr (h (leb-true 1 a e))
-    go false e = let k = leb-false 1 a e in inl (omega arith)
+none-or a b h =
+    by-cases (leb 1 a) (λ e. inr (h (leb-true 1 a e))) (λ e. let k = leb-false 1 a e in inl (omega arith))
 
 module _ {rs : List Row} {t summary account broker : Row} {cs : List Closing}
     (r : Read rs t summary account broker cs) (n : Sums)
@@ -183,42 +181,38 @@ module _ {rs : List Row} {t summary account broker : Row} {cs : List Closing}
           and-both (lotOf (t .party) (t .symbol) x) (buys (t .form) ⇔ short x) e (iff-same (buys (t .form)) (short x) s)
 
   pub one-after : (count (yours t) (after r n space) ≡ 0) ⊎ (count (mine t) (after r n space) ≡ 0)
-  one-after = go (leb 1 (n .left)) refl
-    where
-      go : (b : Bool) → leb 1 (n .left) ≡ b
-          → (count (yours t) (after r n space) ≡ 0) ⊎ (count (mine t) (after r n space) ≡ 0)
-      go true e = inl (yours-none (leb-true 1 (n .left) e))
-      go false e =
-          let k = leb-false 1 (n .left) e in
-          let z : n .left ≡ 0 = omega arith in
-          let a : cond (eqb (n .left) 0) 0 (bit (yours t (lotOpened t n))) ≡ 0 = rw z in
-          let law = yours-law in
-          let f = fewer in
-          ⊎-elim (λ u. inl (omega arith)) (λ u. inr (mine-none z u)) one-before
+  one-after =
+      by-cases (leb 1 (n .left))
+      (λ e. inl (yours-none (leb-true 1 (n .left) e)))
+      (λ e.
+      let k = leb-false 1 (n .left) e in
+      let z : n .left ≡ 0 = omega arith in
+      let a : cond (eqb (n .left) 0) 0 (bit (yours t (lotOpened t n))) ≡ 0 = rw z in
+      let law = yours-law in
+      let f = fewer in
+      ⊎-elim (λ u. inl (omega arith)) (λ u. inr (mine-none z u)) one-before)
 
   -- so all that are left have one sign
   module _ (l : Row) (m : List·Memᴰ l (after r n space)) (held : lotOf (t .party) (t .symbol) l ≡ true) where
     pub not-yours : count (yours t) (after r n space) ≡ 0 → short l ≡ not (buys (t .form))
-    not-yours u = go (buys (t .form) ⇔ short l) refl
-      where
-        go : (b : Bool) → (buys (t .form) ⇔ short l) ≡ b → short l ≡ not (buys (t .form))
-        go true e =
-            let h = count-has (yours t) l (after r n space) m
-            (and-both (lotOf (t .party) (t .symbol) l) (buys (t .form) ⇔ short l) held e)
-            in
-            absurd (omega arith)
-        go false e = iff-two (buys (t .form)) (short l) e
+    not-yours u =
+        by-cases (buys (t .form) ⇔ short l)
+        (λ e.
+        let h = count-has (yours t) l (after r n space) m
+        (and-both (lotOf (t .party) (t .symbol) l) (buys (t .form) ⇔ short l) held e)
+        in
+        absurd (omega arith))
+        (λ e. iff-two (buys (t .form)) (short l) e)
 
     pub not-mine : count (mine t) (after r n space) ≡ 0 → short l ≡ buys (t .form)
-    not-mine u = go (buys (t .form) ⇔ short l) refl
-      where
-        go : (b : Bool) → (buys (t .form) ⇔ short l) ≡ b → short l ≡ buys (t .form)
-        go true e = iff-one (buys (t .form)) (short l) e
-        go false e =
-            let h = count-has (mine t) l (after r n space) m
-            (and-both (lotOf (t .party) (t .symbol) l) (not (buys (t .form) ⇔ short l)) held (ap not e))
-            in
-            absurd (omega arith)
+    not-mine u =
+        by-cases (buys (t .form) ⇔ short l)
+        (λ e. iff-one (buys (t .form)) (short l) e)
+        (λ e.
+        let h = count-has (mine t) l (after r n space) m
+        (and-both (lotOf (t .party) (t .symbol) l) (not (buys (t .form) ⇔ short l)) held (ap not e))
+        in
+        absurd (omega arith))
 
     pub signs-right : count (otherSign l) (after r n space) ≡ 0
     signs-right =
@@ -229,7 +223,7 @@ module _ {rs : List Row} {t summary account broker : Row} {cs : List Closing}
 
   -- ---- another account or symbol
   module _ (a y : ℕ) (apart : (eqb (t .party) a && eqb (t .symbol) y) ≡ false) where
-    pub untouched : (μ : Row → ℕ) → ((x : Row) → lotOf a y x ≡ false → μ x ≡ 0)
+    untouched : (μ : Row → ℕ) → ((x : Row) → lotOf a y x ≡ false → μ x ≡ 0)
         → total μ (after r n space) ≡ total μ rs
     untouched μ none =
         let law = lots-law r n space μ (λ x e. none x (not-lot a y x e)) in

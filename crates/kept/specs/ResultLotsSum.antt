@@ -82,13 +82,13 @@ module _ {rs : List Row} {t summary account broker : Row} {cs : List Closing}
     pub more-left : 1 ≤ size (c .lot) - c .shares
     more-left = let h = ltb-true (c .shares) (size (c .lot)) e in omega arith
 
-    pub left-is : toZ w64 (lotAfter t c .m1) ≡ leftOf (t .form) c
+    left-is : toZ w64 (lotAfter t c .m1) ≡ leftOf (t .form) c
     left-is =
         let k = v .closed c m .most in
         let z = left-size (buys (t .form)) (size (c .lot) - c .shares) in
         bits-tell (leftOf (t .form) c) (omega arith)
 
-    pub left-held : lotOf (t .party) (t .symbol) (lotAfter t c) ≡ true
+    left-held : lotOf (t .party) (t .symbol) (lotAfter t c) ≡ true
     left-held = v .closed c m .held
 
     pub left-other : short (lotAfter t c) ≡ buys (t .form)
@@ -100,7 +100,7 @@ module _ {rs : List Row} {t summary account broker : Row} {cs : List Closing}
   left-most = let a = v .all in let b = v .most in omega arith
 
   -- the new lot
-  pub opened-is : toZ w64 (lotOpened t n .m1) ≡ signed (t .form) (n .left)
+  opened-is : toZ w64 (lotOpened t n .m1) ≡ signed (t .form) (n .left)
   opened-is =
       let k = left-most in
       let z = signed-size (buys (t .form)) (n .left) in

@@ -25,6 +25,7 @@ use Rattle.shelf.specs.Put.{found-has}
 use Rattle.tables.specs.Names.{by-holder, ofParty}
 use Rattle.result.specs.Apart.{found-live}
 use Rattle.result.specs.Own.{Read, Sums, added}
+use Rattle.kept.specs.Cases.{by-cases}
 use Rattle.kept.specs.ResultFresh.{no-summary, none-found}
 use Rattle.kept.specs.ResultLotsSides.{eq-sides, other-side, part, sum-sides, zero-sides}
 use Rattle.kept.specs.ResultLotsSum.{Walked, no-shares}
@@ -34,7 +35,7 @@ pub not-not : (b : Bool) → not (not b) ≡ b
 not-not true = refl
 not-not false = refl
 
-pub count-below : (p : Row → Bool) (f : Row → ℕ) (k : List Row) → ((x : Row) → List·Memᴰ x k → bit (p x) ≤ f x)
+count-below : (p : Row → Bool) (f : Row → ℕ) (k : List Row) → ((x : Row) → List·Memᴰ x k → bit (p x) ≤ f x)
     → count p k ≤ total f k
 unfolding count total
 count-below p f [] h = omega arith
@@ -46,11 +47,8 @@ count-below p f (x ∷ k) h =
 -- ---- lots and their sum
 module _ (a y : ℕ) (l : List Row) where
   none-is : count (lotOf a y) l ≡ 0 → (x : Row) → List·Memᴰ x l → lotOf a y x ≡ false
-  none-is e x m = go (lotOf a y x) refl
-    where
-      go : (b : Bool) → lotOf a y x ≡ b → lotOf a y x ≡ false
-      go true h = let k = count-has (lotOf a y) x l m h in absurd (omega arith)
-      go false h = h
+  none-is e x m =
+      by-cases (lotOf a y x) (λ h. let k = count-has (lotOf a y) x l m h in absurd (omega arith)) (λ h. h)
 
   -- no lots, no shares
   pub no-lots : count (lotOf a y) l ≡ 0 → sumZ (sharesOf a y) l ≡ pos 0
@@ -92,11 +90,6 @@ zero-add z = eq-parts (pos 0 +ℤ z) z (omega (arith, parts-add (pos 0) z))
 module _ (a y : ℕ) (x : Row) (e : hasKey (aSummary a y) x ≡ true) where
   abbrev holder : (ofParty kindSummary a x && eqb (x .symbol) y) ≡ true
   holder = sym (by-holder a y x) ∙ e
-
-  pub key-kind : x .kind ≡ kindSummary
-  key-kind =
-      eqb-true (x .kind) kindSummary (and-left (is kindSummary x) (eqb (x .party) a)
-      (and-left (ofParty kindSummary a x) (eqb (x .symbol) y) holder))
 
   pub key-party : x .party ≡ a
   key-party =

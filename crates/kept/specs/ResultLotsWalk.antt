@@ -55,7 +55,7 @@ all-taken need (l ∷ ls) h =
 
 -- ---- where shares are left over, every lot was closed in whole
 module _ (form price : ℕ) where
-  pub all-whole : (w : Walk) (ls : List Row) → 1 ≤ run (step form price) w ls .need
+  all-whole : (w : Walk) (ls : List Row) → 1 ≤ run (step form price) w ls .need
       → (keep reduced (closings (w .need) ls) ≡ [])
       × ((p : Row → Bool) → count (λ (c : Closing). p (c .lot)) (closings (w .need) ls) ≡ count p ls)
   unfolding run closings keep count total
@@ -95,11 +95,11 @@ module _ (rs : List Row) (good : sound rs ≡ true) (form flags account symbol :
       ∙ sym (count-kept (closes form account symbol) rs)
 
   module _ (price need : ℕ) where
-    pub walk-all : total (λ (c : Closing). c .shares) (closings need lots) + walk form price need lots .need ≡ need
+    walk-all : total (λ (c : Closing). c .shares) (closings need lots) + walk form price need lots .need ≡ need
     unfolding walk
     walk-all = all-shares form price (start need) lots
 
-    pub walk-spent : 1 ≤ walk form price need lots .need
+    walk-spent : 1 ≤ walk form price need lots .need
         → (keep reduced (closings need lots) ≡ [])
         × (count (λ (c : Closing). closes form account symbol (c .lot)) (closings need lots)
         ≡ count (closes form account symbol) rs)
@@ -110,7 +110,7 @@ module _ (rs : List Row) (good : sound rs ≡ true) (form flags account symbol :
 
 -- ---- what a result's walk leaves
 module _ (rs : List Row) (good : sound rs ≡ true) (t : Row) where
-  pub lot-closed : (c : Closing)
+  lot-closed : (c : Closing)
       → List·Memᴰ c (closings (t .n1) (lotsFor rs (t .form) (t .flags) (t .party) (t .symbol))) → Closed t c
   lot-closed c m =
       let ls = lotsFor rs (t .form) (t .flags) (t .party) (t .symbol) in

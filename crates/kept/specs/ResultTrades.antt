@@ -27,7 +27,7 @@ use Rattle.result.specs.Place.{frees}
 use Rattle.result.specs.Rows.{accountChanges, closedLots, closingRows, finalRows, lotChanges, openingRows}
 use Rattle.result.specs.Rows.{summaryChanges, summaryGone, summaryRows}
 use Rattle.feed.specs.Steps.{key-of, kind-of}
-use Rattle.kept.specs.Cases.{no, not-so}
+use Rattle.kept.specs.Cases.{by-cases, no, not-so}
 use Rattle.kept.specs.ResultAfter.{added-comes, after, after-each, quiet-found, turned-comes}
 use Rattle.kept.specs.ResultBase.{all}
 use Rattle.kept.specs.ResultEach.{Aside, by-kind, cashOf, historyOf, settlementOf}
@@ -40,7 +40,7 @@ pub number-is : (k : ℕ) → among k idKinds ≡ true → (i : ℕ) (x : Row) �
 number-is k known i x e =
     eqb-true (x .id) i (and-right (is k x) (eqb (x .id) i) (sym (by-id k known i x) ∙ e))
 
-pub other-number : (k : ℕ) → among k idKinds ≡ true → (i : ℕ) (x : Row) → (x .id ≡ i → ⊥)
+other-number : (k : ℕ) → among k idKinds ≡ true → (i : ℕ) (x : Row) → (x .id ≡ i → ⊥)
     → hasKey (byId k i) x ≡ false
 other-number k known i x ne = not-so (hasKey (byId k i) x) (λ e. ne (number-is k known i x e))
 
@@ -72,7 +72,7 @@ module _ {rs : List Row} {t summary account broker : Row} {cs : List Closing}
   abbrev pub done : Row
   done = tradeWrite t n .1
 
-  pub trade-comes : List·Memᴰ done left
+  trade-comes : List·Memᴰ done left
   trade-comes =
       let w1 = lotChanges t cs in
       let w2 = summaryChanges t summary in
@@ -134,13 +134,12 @@ module _ {rs : List Row} {t summary account broker : Row} {cs : List Closing}
 
   -- a trade that was completed is so
   pub done-stays : (i : ℕ) → found (aTrade i) rs .status ≡ completed → found (aTrade i) left .status ≡ completed
-  done-stays i e = go (eqb (t .id) i) refl
-    where
-      go : (b : Bool) → eqb (t .id) i ≡ b → found (aTrade i) left .status ≡ completed
-      go true q =
-          ap (λ (j : ℕ). found (aTrade j) left .status) (sym (eqb-true (t .id) i q))
-          ∙ ap (λ (x : Row). x .status) trade-done
-      go false q = ap (λ (x : Row). x .status) (trade-other i (eqb-false (t .id) i q)) ∙ e
+  done-stays i e =
+      by-cases (eqb (t .id) i)
+      (λ q.
+      ap (λ (j : ℕ). found (aTrade j) left .status) (sym (eqb-true (t .id) i q))
+      ∙ ap (λ (x : Row). x .status) trade-done)
+      (λ q. ap (λ (x : Row). x .status) (trade-other i (eqb-false (t .id) i q)) ∙ e)
 
   pub done-now : found (aTrade (t .id)) left .status ≡ completed
   done-now = ap (λ (x : Row). x .status) trade-done

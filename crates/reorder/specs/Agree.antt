@@ -10,7 +10,7 @@ use Rattle.laws.specs.Keep.{count-has, count-one, the-has}
 use Rattle.laws.specs.Place.{the-none, the-passes}
 use Rattle.laws.specs.Search.{bit, count, the, total}
 use Rattle.laws.specs.Puts.{is-counted, member}
-use Rattle.reorder.specs.Cases.{by-cases, clash, cond-no, cond-yes}
+use Rattle.kept.specs.Cases.{by-cases, cond-no, cond-yes, no}
 
 module _ {A : Type 0} (same : A → A → Bool) where
   -- those that pass are there equally often
@@ -54,7 +54,7 @@ module _ {A : Type 0} (same : A → A → Bool) (tells : (a b : A) → same a b 
 
   module _ {B : Type 0} (p : A → Bool) (f : A → B → B) (z : B) where
     -- it is one which of two comes first
-    abbrev pub Swaps : A → A → Type 0
+    abbrev Swaps : A → A → Type 0
     Swaps x y = (b : B) → f x (f y b) ≡ f y (f x b)
 
     abbrev pub all : List A → B
@@ -110,7 +110,7 @@ module _ {A : Type 0} (same : A → A → Bool) (tells : (a b : A) → same a b 
         ∙ gathered-agree s t c
         (λ y e.
         let k = h y e in
-        let d = by-cases (same y x) (λ u. clash (ap p (sym (tells y x u)) ∙ e) v) (λ u. ap bit u) in
+        let d = by-cases (same y x) (λ u. no v (ap p (sym (tells y x u)) ∙ e)) (λ u. ap bit u) in
         omega arith))
 
   -- ---- sums
@@ -132,7 +132,7 @@ module _ {A : Type 0} (same : A → A → Bool) (tells : (a b : A) → same a b 
 
   -- ---- a search that at most one row passes
   module _ (p q : A → Bool) (d : A) (within : (x : A) → p x ≡ true → q x ≡ true) where
-    pub there-agree : (s t : List A) → Agree same q s t → (x : A) → List·Memᴰ x s → q x ≡ true → List·Memᴰ x t
+    there-agree : (s t : List A) → Agree same q s t → (x : A) → List·Memᴰ x s → q x ≡ true → List·Memᴰ x t
     there-agree s t h x m e =
         let k = is-counted same tells itself x s m in
         let a = h x e in
@@ -149,7 +149,7 @@ module _ {A : Type 0} (same : A → A → Bool) (tells : (a b : A) → same a b 
         let m =
         there-agree t s (λ x e. sym (h x e)) (the p d t) (the-has p d t b) (within _ (the-passes p d t b)) in
         let c = le-leb 1 (count p s) (count-has p (the p d t) s m (the-passes p d t b)) in
-        clash c a)
+        no a c)
         (λ b. the-none p d s a ∙ sym (the-none p d t b)))
 
 -- ---- a value of the one that passes, as a sum

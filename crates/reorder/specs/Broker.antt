@@ -20,7 +20,7 @@ use Rattle.model.specs.Rows.{found, hasKey, is, nothing}
 use Rattle.tables.specs.Names.{by-party}
 use Rattle.kept.specs.Posted.{writes}
 use Rattle.reorder.specs.Agree.{only, the-total}
-use Rattle.reorder.specs.Cases.{cond-no}
+use Rattle.kept.specs.Cases.{cond-no}
 use Rattle.reorder.specs.Inv.{Inv, broker-key, broker-kind, inv-step, itsBroker, sum-none, totals, turns}
 use Rattle.reorder.specs.SameView.{key-once}
 use Rattle.reorder.specs.Sim.{final, trace}

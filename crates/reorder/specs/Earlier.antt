@@ -10,7 +10,7 @@ use borrow.Author.Tests.{eq-eqb, eqb-true, le-leb, leb-false, leb-true, lt-ltb, 
 use Rattle.laws.specs.Tests.{and-both, and-left, and-right, or-cases, or-left, or-right}
 use Rattle.record.specs.declared.row.Row.{Row}
 use Rattle.model.specs.Lots.{before, earlier}
-use Rattle.reorder.specs.Cases.{by-cases, clash}
+use Rattle.kept.specs.Cases.{by-cases, no}
 
 abbrev First : Row → Row → Type 0
 First a b = (a .time < b .time) ⊎ ((a .time ≡ b .time) × (a .id ≤ b .id))
@@ -39,12 +39,12 @@ earlier-total a b e =
     by-cases (ltb (b .time) (a .time))
     (λ h. holds b a (inl (ltb-true (b .time) (a .time) h)))
     (λ h. by-cases (ltb (a .time) (b .time))
-    (λ k. clash (holds a b (inl (ltb-true (a .time) (b .time) k))) e)
+    (λ k. no e (holds a b (inl (ltb-true (a .time) (b .time) k))))
     (λ k.
     let p = ltb-false (b .time) (a .time) h in
     let q = ltb-false (a .time) (b .time) k in
     by-cases (leb (a .id) (b .id))
-    (λ l. clash (holds a b (inr (omega arith, leb-true (a .id) (b .id) l))) e)
+    (λ l. no e (holds a b (inr (omega arith, leb-true (a .id) (b .id) l))))
     (λ l. let r = leb-false (a .id) (b .id) l in holds b a (inr (omega arith, omega arith)))))
 
 earlier-trans : (a b c : Row) → earlier a b ≡ true → earlier b c ≡ true → earlier a c ≡ true

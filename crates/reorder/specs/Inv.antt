@@ -2,7 +2,7 @@
 -- another account, or of none, leaves an account's rows. Assumes nothing.
 use mathlib.Core.Path.{_≡_, refl, sym, ap, subst, _∙_}
 use mathlib.Core.Bool.{true, false, cond}
-use mathlib.Core.List.{List, [], _∷_, _++_, map, List·Memᴰ·head, List·Memᴰ·tail}
+use mathlib.Core.List.{List, [], _∷_, _++_, map}
 use mathlib.Core.Logic.{_⊎_, inl, inr}
 use Prim.Native.Nat.{ℕ, _+_, _≤_}
 use native.Mathlib.Omega.{arith}
@@ -23,10 +23,11 @@ use Rattle.model.specs.Sound.{sound}
 use Rattle.model.specs.SoundMeans.{means-sound}
 use Rattle.shelf.specs.Put.{same-rows}
 use Rattle.result.specs.Apart.{found-kind, found-live, found-member, key-kind}
-use Rattle.kept.specs.Posted.{adds, frees, writes}
+use Rattle.kept.specs.Posted.{adds, frees, same-sums, writes}
 use Rattle.laws.specs.Puts.{news, olds}
+use Rattle.laws.specs.Total.{total-append, total-map, total-single, total-zero}
 use Rattle.reorder.specs.Agree.{Agree, the-total}
-use Rattle.reorder.specs.Cases.{by-cases, clash}
+use Rattle.kept.specs.Cases.{by-cases, no}
 use Rattle.reorder.specs.SameView.{key-once}
 use Rattle.reorder.specs.Step.{Done, Note, Refused, broker-has, done-live, done-sound, done-total, outcome, seen}
 use Rattle.reorder.specs.Step.{step, step-cases, step-length}
@@ -34,50 +35,32 @@ use Rattle.reorder.specs.Whose.{mine, not-broker, not-free, not-other, w
 use Rattle.reorder.specs.Writes.{Its, Turn, all-turns, partyIf}
 
 -- ---- the broker's row stands by itself among what is written
-sum-append : (μ : Row → ℕ) (g : Row × Row → Row) (k l : List (Row × Row))
-    → total μ (map g (k ++ l)) ≡ total μ (map g k) + total μ (map g l)
-unfolding total
-sum-append μ g [] l = omega arith
-sum-append μ g (w ∷ k) l = let ih = sum-append μ g k l in omega arith
-
 beside : (μ : Row → ℕ) (g : Row × Row → Row) (b : Row) (c : ℕ) (p : Posting)
     → total μ (map g (writes (withBroker b c p))) ≡ total μ (map g (writes p)) + μ (g (b, brokerAfter b c))
-unfolding total
 beside μ g b c p =
+    let ν : Row × Row → ℕ = λ w. μ (g w) in
     let one : List (Row × Row) = (b, brokerAfter b c) ∷ [] in
-    let a1 = sum-append μ g (adds (p .added)) ((p .changes ++ one) ++ frees (p .freed)) in
-    let a2 = sum-append μ g (p .changes ++ one) (frees (p .freed)) in
-    let a3 = sum-append μ g (p .changes) one in
-    let b1 = sum-append μ g (adds (p .added)) (p .changes ++ frees (p .freed)) in
-    let b2 = sum-append μ g (p .changes) (frees (p .freed)) in
+    let a0 = total-map μ g (writes (withBroker b c p)) in
+    let a1 = total-append ν (adds (p .added)) ((p .changes ++ one) ++ frees (p .freed)) in
+    let a2 = total-append ν (p .changes ++ one) (frees (p .freed)) in
+    let a3 = total-append ν (p .changes) one in
+    let a4 = total-single ν (b, brokerAfter b c) in
+    let b0 = total-map μ g (writes p) in
+    let b1 = total-append ν (adds (p .added)) (p .changes ++ frees (p .freed)) in
+    let b2 = total-append ν (p .changes) (frees (p .freed)) in
     omega arith
 
-pub olds-beside : (μ : Row → ℕ) (b : Row) (c : ℕ) (p : Posting)
+olds-beside : (μ : Row → ℕ) (b : Row) (c : ℕ) (p : Posting)
     → total μ (olds (writes (withBroker b c p))) ≡ total μ (olds (writes p)) + μ b
 olds-beside μ b c p = beside μ (λ (w : Row × Row). w .0) b c p
 
-pub news-beside : (μ : Row → ℕ) (b : Row) (c : ℕ) (p : Posting)
+news-beside : (μ : Row → ℕ) (b : Row) (c : ℕ) (p : Posting)
     → total μ (news (writes (withBroker b c p))) ≡ total μ (news (writes p)) + μ (brokerAfter b c)
 news-beside μ b c p = beside μ (λ (w : Row × Row). w .1) b c p
 
--- ---- sums over what is written
 pub sum-none : (μ : Row → ℕ) (g : Row × Row → Row) (ws : List (Row × Row))
     → All (λ (w : Row × Row). μ (g w) ≡ 0) ws → total μ (map g ws) ≡ 0
-unfolding total
-sum-none μ g [] h = refl
-sum-none μ g (w ∷ ws) h =
-    let one = h w (List·Memᴰ·head refl) in
-    let ih = sum-none μ g ws (λ x m. h x (List·Memᴰ·tail m)) in
-    omega arith
-
-sum-alike : (μ : Row → ℕ) (ws : List (Row × Row)) → All (λ (w : Row × Row). μ (w .0) ≡ μ (w .1)) ws
-    → total μ (olds ws) ≡ total μ (news ws)
-unfolding total
-sum-alike μ [] h = refl
-sum-alike μ (w ∷ ws) h =
-    let one = h w (List·Memᴰ·head refl) in
-    let ih = sum-alike μ ws (λ x m. h x (List·Memᴰ·tail m)) in
-    omega arith
+sum-none μ g ws h = total-map μ g ws ∙ total-zero (λ w. μ (g w)) ws h
 
 -- ---- what a run keeps
 pub record Inv (own : ℕ → ℕ) (rs : List Row) : Type 0 where
@@ -125,11 +108,11 @@ module _ (own : ℕ → ℕ) (rs : List Row) (input : Row) (v : Inv own rs) (non
       (λ e. rw e)
 
 module _ (own : ℕ → ℕ) (rs : List Row) (input : Row) (v : Inv own rs) where
-  abbrev pub seenTrade : Row
+  abbrev seenTrade : Row
   seenTrade = found (aTrade (input .id)) rs
 
   module _ (d : Done rs input) where
-    pub its-account : own (input .id) ≡ seenTrade .party
+    its-account : own (input .id) ≡ seenTrade .party
     its-account = sym (v .owns (input .id))
 
     live : is kindFree seenTrade ≡ false
@@ -180,7 +163,7 @@ module _ (own : ℕ → ℕ) (rs : List Row) (input : Row) (v : Inv own rs) wher
         let f = figures input w in
         let p = posting input w f in
         let law = totals (partyIf i) in
-        let same = sum-alike (partyIf i) (writes p) (λ x m. turns x m .party i) in
+        let same = same-sums (partyIf i) (writes p) (λ x m. turns x m .party i) in
         let b0 = no-party i itsBroker broker-kind in
         let b1 = no-party i (brokerAfter itsBroker (f .commission)) broker-kind in
         let now =
@@ -212,7 +195,7 @@ module _ (own : ℕ → ℕ) (rs : List Row) (input : Row) (v : Inv own rs) wher
   pub not-same : (x y : Row) (a : ℕ) → mine own a x ≡ true → mine own a y ≡ false → bit (sameRow x y) ≡ 0
   not-same x y a m n =
       by-cases (sameRow x y)
-      (λ e. clash (ap (mine own a) (sym (same-rows x y e)) ∙ m) n)
+      (λ e. no n (ap (mine own a) (sym (same-rows x y e)) ∙ m))
       (λ e. ap bit e)
 
   others : (a c : ℕ) (y : Row) → Its own a y → (a ≡ 0 → ⊥) → (a ≡ c → ⊥) → mine own c y ≡ false

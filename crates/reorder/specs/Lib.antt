@@ -1,5 +1,4 @@
 pub mod Statement
-pub mod Cases
 pub mod Agree
 pub mod Sorted
 pub mod Sim

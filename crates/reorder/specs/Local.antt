@@ -22,7 +22,7 @@ use Rattle.model.specs.Rows.{sameRow}
 use Rattle.kept.specs.Posted.{writes}
 use Rattle.laws.specs.Puts.{news, olds}
 use Rattle.reorder.specs.Agree.{Agree}
-use Rattle.reorder.specs.Cases.{clash}
+use Rattle.kept.specs.Cases.{no}
 use Rattle.reorder.specs.Inv.{Inv, broker-kind, itsBroker, not-same, totals}
 use Rattle.reorder.specs.SameView.{same-view}
 use Rattle.reorder.specs.Step
@@ -137,8 +137,8 @@ module _ (own : ℕ → ℕ) (a : ℕ) (s t : List Row) (is : Inv own s) (it : I
         r .unanswered ∙ sym (q .unanswered),
         λ x m. ap (count (sameRow x)) (r .as-found) ∙ h x m ∙ sym (ap (count (sameRow x)) (q .as-found)),
       )
-      go (inl r) (inr d) = clash (ap isDone statuses ∙ Step.done-status t input d) (r .not-done)
-      go (inr d) (inl q) = clash (sym (ap isDone statuses) ∙ Step.done-status s input d) (q .not-done)
+      go (inl r) (inr d) = no (r .not-done) (ap isDone statuses ∙ Step.done-status t input d)
+      go (inr d) (inl q) = no (q .not-done) (sym (ap isDone statuses) ∙ Step.done-status s input d)
       go (inr d) (inr q) = both-done d q
 
   pub local : (step s input .0 ≡ step t input .0)

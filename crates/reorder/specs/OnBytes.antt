@@ -23,7 +23,7 @@ use Rattle.model.specs.Rows.{bytes, mostRecords, recordSize, rows, wholeRecords
 use Rattle.model.specs.Sound.{sound}
 use Rattle.tables.specs.Found.{sound-s1}
 use Rattle.kept.specs.Bytes.{length-bytes, rows-bytes}
-use Rattle.reorder.specs.Cases.{by-cases, cond-no, cond-yes}
+use Rattle.kept.specs.Cases.{by-cases, cond-no, cond-yes}
 use Rattle.reorder.specs.Local.{Fine}
 use Rattle.reorder.specs.Run.{noteTo, on}
 use Rattle.reorder.specs.Sim.{Fines, final, trace}
@@ -79,11 +79,11 @@ module _ (b input area : List ℕ) (s : SoundBytes b) (l : length input ≡ reco
   unfolding resultCall shell
   call-is = rw (l, k, s .whole, s .right)
 
-  pub reply-status : resultCall b input area .status ≡ step (rows b) i .0 .status
+  reply-status : resultCall b input area .status ≡ step (rows b) i .0 .status
   unfolding replied step
   reply-status = ap (λ (r : Reply). r .status) call-is
 
-  pub reply-answer : resultCall b input area .answer ≡ said (step (rows b) i .0)
+  reply-answer : resultCall b input area .answer ≡ said (step (rows b) i .0)
   unfolding replied step
   reply-answer =
       ap (λ (r : Reply). r .answer) call-is
@@ -93,7 +93,7 @@ module _ (b input area : List ℕ) (s : SoundBytes b) (l : length input ≡ reco
   unfolding replied
   book-is t e = ap (λ (r : Reply). r .book) call-is ∙ ap (λ (d : Bool). either d (bytes (o .rows)) b) e
 
-  pub reply-book : SoundBytes (resultCall b input area .book)
+  reply-book : SoundBytes (resultCall b input area .book)
       × (rows (resultCall b input area .book) ≡ step (rows b) i .1)
   unfolding step
   reply-book = go (step-cases (rows b) i)
@@ -121,7 +121,7 @@ module _ (list : List (List ℕ)) (area : ℕ → List ℕ) (areas : Areas area)
   abbrev pub input : ℕ → Row
   input i = decode (getD list i [])
 
-  abbrev pub Long : ℕ → Type 0
+  abbrev Long : ℕ → Type 0
   Long i = length (getD list i []) ≡ recordSize
 
   module _ (b : List ℕ) (s : SoundBytes b) (i : ℕ) (l : Long i) where

@@ -8,34 +8,24 @@ use native.Mathlib.Omega.{arith}
 use lib.Dec.{eqb, leb}
 use lib.ListN.{length}
 use borrow.Author.Tests.{eq-eqb, leb-false, leb-true}
-use Rattle.laws.specs.All.{all-one}
 use Rattle.laws.specs.Keep.{count-split}
 use Rattle.laws.specs.Search.{bit, count, the, total}
 use Rattle.laws.specs.Tests.{and-both}
 use Rattle.record.specs.Codes.{kindBroker, kindFree}
 use Rattle.record.specs.declared.row.Row.{Row}
-use Rattle.rules.specs.Meaning.{Fits}
 use Rattle.model.specs.Names.{aBroker}
 use Rattle.model.specs.Rows.{found, hasKey, is, nothing, sameRow}
 use Rattle.model.specs.Sound.{sound}
-use Rattle.model.specs.SoundMeans.{means-s1, means-sound}
-use Rattle.shelf.specs.Put.{clean-fit, row-itself, same-rows}
+use Rattle.shelf.specs.Put.{row-itself, same-rows}
 use Rattle.tables.specs.Names.{by-party}
 use Rattle.result.specs.Apart.{found-live, found-member}
 use Rattle.laws.specs.Puts.{count-less, is-counted, member, the-one}
-use Rattle.reorder.specs.Cases.{by-cases, clash}
+use Rattle.kept.specs.Cases.{by-cases, no}
+use Rattle.kept.specs.ResultBase.{free-nothing}
 use Rattle.reorder.specs.Inv.{Inv, inv-step, nameless, namelessNote}
 use Rattle.reorder.specs.SameView.{key-once}
 use Rattle.reorder.specs.Sim.{final, trace}
 use Rattle.reorder.specs.Step.{Note, step, step-length}
-
-pub total-on : {A : Type 0} (f g : A → ℕ) (l : List A) → ((x : A) → List·Memᴰ x l → f x ≡ g x) → total f l ≡ total g l
-unfolding total
-total-on f g [] h = refl
-total-on f g (x ∷ l) h =
-    let one = h x (List·Memᴰ·head refl) in
-    let ih = total-on f g l (λ y m. h y (List·Memᴰ·tail m)) in
-    omega arith
 
 all-counted : (l : List Row) → count (λ (x : Row). true) l ≡ length l
 unfolding count total
@@ -127,8 +117,7 @@ free-none s x good e h =
     by-cases (leb 1 (count (sameRow x) s))
     (λ u.
     let m = member sameRow same-rows row-itself x s (leb-true 1 (count (sameRow x) s) u) in
-    let fit = means-s1 (x ∷ []) .holds (all-one Fits x (means-sound s .shows good .s1 x m)) in
-    clash (ap (sameRow nothing) (clean-fit (x ∷ []) fit 0 e) ∙ row-itself nothing) h)
+    no h (ap (sameRow nothing) (free-nothing s good x m e) ∙ row-itself nothing))
     (λ u. let z = leb-false 1 (count (sameRow x) s) u in omega arith)
 
 pub free-rest : (s : List Row)

@@ -1,7 +1,7 @@
 -- Two sound books that agree on an account's rows and on those that no result changes: a result of the account reads
 -- the same of both. Assumes nothing.
 use mathlib.Core.Path.{_≡_, refl, sym, ap, _∙_}
-use mathlib.Core.Bool.{Bool, true, false, cond, not, _&&_}
+use mathlib.Core.Bool.{Bool, true, false, not, _&&_}
 use mathlib.Core.List.{List}
 use mathlib.Core.Logic.{⊎-elim}
 use Prim.Native.Nat.{ℕ, _≤_}
@@ -10,7 +10,7 @@ use lib.Dec.{eqb, leb}
 use borrow.Author.Tests.{eq-eqb, eqb-false, eqb-true, leb-false}
 use Rattle.laws.specs.Keep.{count-one, the-has}
 use Rattle.laws.specs.Place.{the-passes}
-use Rattle.laws.specs.Search.{count, the, total}
+use Rattle.laws.specs.Search.{count, the}
 use Rattle.laws.specs.Tests.{Means, _⇔_, and-both, and-left, and-right, means-and, means-eq, means-le}
 use Rattle.record.specs.Codes.{kindAccount, kindBand, kindCustomerRate, kindFree, kindLot, kindLotHistory, kindSummary}
 use Rattle.record.specs.Codes.{kindTrade}
@@ -25,14 +25,15 @@ use Rattle.model.specs.Money.{buys}
 use Rattle.model.specs.Names.{aCustomer, aLot, aSecurity, aSummary, aTaxRate, aTrade, anAccount}
 use Rattle.model.specs.Result.{View, view}
 use Rattle.model.specs.Rows.{found, hasKey, is, nothing, sameRow}
-use Rattle.model.specs.Sound.{lotOf, overlaps, rateOf, ratesOf, short, sound}
+use Rattle.model.specs.Sound.{lotOf, overlaps, ratesOf, short, sound}
 use Rattle.model.specs.SoundMeans.{means-sound}
 use Rattle.shelf.specs.Put.{row-itself, same-rows}
 use Rattle.tables.specs.Names.{by-holder, by-id, by-party}
 use Rattle.result.specs.Apart.{key-kind}
 use Rattle.laws.specs.Puts.{count-less}
 use Rattle.reorder.specs.Agree.{Agree, the-agree, total-agree}
-use Rattle.reorder.specs.Cases.{by-cases, clash, cond-no}
+use Rattle.kept.specs.Looks.{rates-alike}
+use Rattle.kept.specs.Cases.{by-cases, no}
 use Rattle.reorder.specs.Earlier.{before-both, before-total, before-trans}
 use Rattle.reorder.specs.Sorted.{sort-agree}
 use Rattle.reorder.specs.Whose.{aside, byParty, byTrade, mine, mine-none, mine-own, whose-none, whose-party}
@@ -98,7 +99,7 @@ both-overlap form tier exchange shares x y p q =
       let a = q .0 .1 in let b = p .1 in omega arith,
     )
 
-pub band-once : (rs : List Row) → sound rs ≡ true → (form tier exchange shares : ℕ)
+band-once : (rs : List Row) → sound rs ≡ true → (form tier exchange shares : ℕ)
     → count (bandFor form tier exchange shares) rs ≤ 1
 band-once rs good form tier exchange shares =
     let p : Row → Bool = λ r. bandFor form tier exchange shares r in
@@ -134,7 +135,7 @@ module _ (own : ℕ → ℕ) (a : ℕ) (s t : List Row) (good : sound t ≡ true
   found-common : (k : Key) → eqb (k .kind) kindFree ≡ false → Common (k .kind) → found k s ≡ found k t
   found-common k live c = found-same k live (λ x e. common (k .kind) c x (key-kind k x e))
 
-  pub trade-same : (i : ℕ) → own i ≡ a → found (aTrade i) s ≡ found (aTrade i) t
+  trade-same : (i : ℕ) → own i ≡ a → found (aTrade i) s ≡ found (aTrade i) t
   trade-same i e =
       found-same (aTrade i) refl
       (λ x q.
@@ -160,25 +161,10 @@ module _ (own : ℕ → ℕ) (a : ℕ) (s t : List Row) (good : sound t ≡ true
       mine-own own a x kindSummary k refl (whose-party own x kindSummary k refl ∙ p ∙ e))
 
   rates-same : (c : ℕ) → ratesOf s c ≡ ratesOf t c
-  unfolding ratesOf
-  rates-same c =
-      let each : (x : Row) → rateOf s c x ≡ rateOf t c x =
-      λ x.
-      ap (λ (r : Row). cond (is kindCustomerRate x && eqb (x .party) c) (r .n1) 0)
-      (found-common (aTaxRate (x .n1)) refl (refl, refl, refl, refl))
-      in
-      (λ i. total (λ (x : Row). each x i) s)
-      ∙ total-agree sameRow same-rows row-itself (mine own a) (rateOf t c)
-      (λ x off.
-      cond-no _ _
-      (by-cases (is kindCustomerRate x && eqb (x .party) c)
-      (λ e.
-      clash
-      (common kindCustomerRate (refl, refl, refl, refl) x
-      (eqb-true (x .kind) kindCustomerRate (and-left (is kindCustomerRate x) (eqb (x .party) c) e)))
-      off)
-      (λ e. e)))
-      s t h
+  rates-same =
+      rates-alike s t (λ i. found-common (aTaxRate i) refl (refl, refl, refl, refl))
+      (λ μ none. total-agree sameRow same-rows row-itself (mine own a) μ
+      (λ x off. none x (λ k. no off (common kindCustomerRate (refl, refl, refl, refl) x k))) s t h)
 
   band-same : (form tier exchange shares : ℕ)
       → bandRate s form tier exchange shares ≡ bandRate t form tier exchange shares

@@ -5,11 +5,11 @@ use mathlib.Core.List.{List, [], _∷_, List·Memᴰ}
 use Rattle.laws.specs.Search.{keep}
 use Rattle.laws.specs.Sort.{insert, sort}
 use Rattle.reorder.specs.Agree.{Agree, gathered, gathered-agree}
-use Rattle.reorder.specs.Cases.{by-cases, clash, cond-no, cond-yes}
+use Rattle.kept.specs.Cases.{by-cases, cond-no, cond-yes, no}
 
 module _ {A : Type 0} (before : A → A → Bool) (tot : (x y : A) → before x y ≡ false → before y x ≡ true)
     (trans : (x y z : A) → before x y ≡ true → before y z ≡ true → before x z ≡ true) where
-  abbrev pub Anti : A → A → Type 0
+  abbrev Anti : A → A → Type 0
   Anti x y = before x y ≡ true → before y x ≡ true → x ≡ y
 
   front : (x y : A) → before x y ≡ true → (l : List A) → insert before x (y ∷ l) ≡ x ∷ y ∷ l
@@ -43,13 +43,13 @@ module _ {A : Type 0} (before : A → A → Bool) (tot : (x y : A) → before x 
       (λ k.
       ap (insert before x) (front y z h l) ∙ both x y anti z l h k ∙ sym (ap (insert before y) (front x z k l)))
       (λ k. by-cases (before x y)
-      (λ m. clash (trans x y z m h) k)
+      (λ m. no k (trans x y z m h))
       (λ m.
       ap (insert before x) (front y z h l) ∙ past x y m (z ∷ l) ∙ ap (y ∷_) (past x z k l)
       ∙ sym (front y z h (insert before x l)) ∙ sym (ap (insert before y) (past x z k l)))))
       (λ h. by-cases (before x z)
       (λ k. by-cases (before y x)
-      (λ m. clash (trans y x z m k) h)
+      (λ m. no h (trans y x z m k))
       (λ m.
       ap (insert before x) (past y z h l) ∙ front x z k (insert before y l) ∙ ap (x ∷_) (sym (past y z h l))
       ∙ sym (past y x m (z ∷ l)) ∙ sym (ap (insert before y) (front x z k l))))

@@ -37,7 +37,7 @@ use Rattle.kept.specs.Posted.{posted-puts, writes}
 use Rattle.kept.specs.ResultBase.{Accepted, accepted-all, postingOf, result-inside}
 use Rattle.kept.specs.ResultSound.{result-sound}
 use Rattle.laws.specs.Puts.{news, olds, puts-total}
-use Rattle.reorder.specs.Cases.{by-cases}
+use Rattle.kept.specs.Cases.{by-cases}
 use Rattle.reorder.specs.Writes.{Seen}
 
 -- what is noted of a step: the answer, and the broker and its commission where it is done
@@ -119,7 +119,7 @@ module _ (rs : List Row) (input : Row) where
     accepted : Accepted rs input
     accepted = accepted-all rs input (d .done)
 
-    pub done-rows : outcome rs input .rows ≡ puts sameRow (writes (postingOf rs input)) rs
+    done-rows : outcome rs input .rows ≡ puts sameRow (writes (postingOf rs input)) rs
     done-rows =
         ap (λ (o : Outcome). o .rows) outcome-is ∙ accepted .rows ∙ posted-puts (postingOf rs input) rs
 
@@ -168,7 +168,7 @@ module _ (rs : List Row) (input : Row) (good : sound rs ≡ true) (live : is kin
     trade-kind : tradeRow .kind ≡ kindTrade
     trade-kind = eqb-true (tradeRow .kind) kindTrade (and-left (is kindTrade tradeRow) _ trade-fields)
 
-    pub trade-id : tradeRow .id ≡ input .id
+    trade-id : tradeRow .id ≡ input .id
     trade-id = eqb-true (tradeRow .id) (input .id) (and-right (is kindTrade tradeRow) _ trade-fields)
 
     there-account : there (anAccount (tradeRow .party)) rs ≡ true
