@@ -25,7 +25,7 @@ use Rattle.model.specs.Rows.{found, hasKey, is, nothing, sameRow}
 use Rattle.model.specs.SoundMeans.{Each}
 use Rattle.shelf.specs.Put.{same-rows}
 use Rattle.feed.specs.Steps.{key-of}
-use Rattle.kept.specs.Cases.{by-cases}
+use Rattle.kept.specs.Cases.{by-cases, not-among}
 use Rattle.kept.specs.FeedLaws.{all-put, map-map-same, map-put, sum-map, the-map, the-put}
 use Rattle.kept.specs.FeedSteps.{Leads, historyFor, sent}
 use Rattle.laws.specs.Puts.{count-less}
@@ -176,15 +176,12 @@ module _ {rs m : List Row} (lead : Leads rs m) where
 abbrev pub touched : List ℕ
 touched = kindSecurity ∷ kindTrade ∷ kindTradeHistory ∷ kindRequest ∷ kindFree ∷ []
 
-pub untouched : (k j : ℕ) → among k touched ≡ false → among j touched ≡ true → j ≡ k → ⊥
-untouched k j n y q = false≢true (sym n ∙ ap (λ (x : ℕ). among x touched) (sym q) ∙ y)
-
 -- what is the same for all rows of other kinds
 module _ (k : ℕ) (off : among k touched ≡ false) where
   pub calm-kind : {X : Type 0} (f : Row → X) (z : X) → ((r : Row) → (r .kind ≡ k → ⊥) → f r ≡ z) → Calm f
   calm-kind f z of =
       let at : (r : Row) (j : ℕ) → r .kind ≡ j → among j touched ≡ true → f r ≡ z =
-      λ r j e y. of r (λ q. untouched k j off y (sym e ∙ q))
+      λ r j e y. of r (λ q. not-among touched k j off y (sym e ∙ q))
       in
       record {
         security = λ e s h. at (traded e s) kindSecurity h refl ∙ sym (at s kindSecurity h refl);
@@ -195,7 +192,7 @@ module _ (k : ℕ) (off : among k touched ≡ false) where
 
   pub each-stays : {rs m : List Row} → Leads rs m → (P : Row → Type 0) → Each k P rs → Each k P (swept m)
   each-stays lead P a =
-      let clash : (j : ℕ) → among j touched ≡ true → j ≡ k → ⊥ = λ j y q. untouched k j off y q in
+      let clash : (j : ℕ) → among j touched ≡ true → j ≡ k → ⊥ = λ j. not-among touched k j off in
       passes-all lead (λ (x : Row). x .kind ≡ k → P x)
       (record {
         security = λ e s g h v p q. absurd (clash kindSecurity refl (sym h ∙ q));
@@ -225,7 +222,7 @@ moving = kindTradeHistory ∷ kindRequest ∷ kindFree ∷ []
 pub calm-key : (k : Key) → among (k .kind) moving ≡ false → Calm (hasKey k)
 calm-key k off =
     let at : (r : Row) (j : ℕ) → r .kind ≡ j → among j moving ≡ true → hasKey k r ≡ false =
-    λ r j e y. key-of k r (λ q. false≢true (sym off ∙ ap (λ (x : ℕ). among x moving) (sym q ∙ e) ∙ y))
+    λ r j e y. key-of k r (λ q. not-among moving (k .kind) j off y (sym e ∙ q))
     in
     record {
       security = λ e s h. traded-key e s h k;

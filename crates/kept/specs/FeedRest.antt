@@ -1,16 +1,16 @@
 -- A feed that is done leaves S3, S4, S5, S8, S9 and S10: what these rules look at is not touched, but for the status of
 -- trades that are pending and the history rows that name them. Assumes nothing.
 use mathlib.Core.Path.{_≡_, refl, sym, ap, subst, _∙_}
-use mathlib.Core.Bool.{Bool, true, false, not, false≢true}
+use mathlib.Core.Bool.{Bool, true, false, false≢true}
 use mathlib.Core.List.{List, [], List·Memᴰ, List·Memᴰ·not-nil}
 use Prim.Native.Nat.{ℕ}
 use native.Mathlib.Omega.{arith}
 use lib.Dec.{eqb}
 use lib.IntN.{pos}
-use borrow.Author.Tests.{eq-eqb, eqb-true, ne-eqb, not-true}
+use borrow.Author.Tests.{eq-eqb, eqb-true, ne-eqb}
 use Rattle.laws.specs.All.{All, all-one}
 use Rattle.laws.specs.Keep.{count-has}
-use Rattle.laws.specs.Search.{bit, count, every, means-every}
+use Rattle.laws.specs.Search.{bit, count, every}
 use Rattle.record.specs.Codes.{completed, kindBand, kindCash, kindCustomer, kindCustomerRate, kindFree, kindLot}
 use Rattle.record.specs.Codes.{kindLotHistory, kindSecurity, kindSettlement, kindSummary, kindTrade, pending}
 use Rattle.record.specs.Key.{among}
@@ -18,7 +18,7 @@ use Rattle.record.specs.declared.key.Key.{Key}
 use Rattle.record.specs.declared.row.Row.{Row}
 use Rattle.model.specs.Feed.{swept, traded}
 use Rattle.model.specs.Flags.{cash}
-use Rattle.model.specs.Names.{aCash, aSettlement, aSummary, aTaxRate, aTrade, named, names}
+use Rattle.model.specs.Names.{aCash, aSettlement, aSummary, aTaxRate, aTrade, named}
 use Rattle.model.specs.Rows.{found, hasKey, nothing}
 use Rattle.model.specs.Sound.{lotOf, otherSign, overlaps, sharesOf}
 use Rattle.model.specs.SoundMeans.{Each, LotRight, S10, S3, S4, S5, S8, S9, SoundBook, SummaryRight, There}
@@ -26,21 +26,16 @@ use Rattle.tables.specs.Found.{own-number}
 use Rattle.feed.specs.Steps.{key-of}
 use Rattle.result.specs.Apart.{names-account}
 use Rattle.kept.specs.FeedCalm.{calm-count, calm-key, calm-kind, calm-sum, calm-total, each-stays, finds-same}
-use Rattle.kept.specs.FeedCalm.{moving, passes-all, touched, untouched}
+use Rattle.kept.specs.FeedCalm.{moving, passes-all, touched}
 use Rattle.kept.specs.FeedSteps.{Leads, sent}
-use Rattle.kept.specs.ResultNames.{every-or}
+use Rattle.kept.specs.ResultNames.{named-off}
+use Rattle.kept.specs.Cases.{not-among}
 use Rattle.kept.specs.Looks.{rates-alike}
 
 -- ---- what a row names is no history and no request
 named-stays : (x : Row) (k : Key) → List·Memᴰ k (named x) → among (k .kind) moving ≡ false
-unfolding named every
-named-stays x k m =
-    let stays : Key → Bool = λ j. not (among (j .kind) moving) in
-    let all : every stays (named x) ≡ true =
-    every-or (λ (f : Row → List Key). every stays (f x)) (λ (s : Row). []) names (x .kind) refl refl
-    in
-    not-true (among (k .kind) moving)
-    (means-every {p = stays} (named x) (λ j. record { shows = λ e. e; holds = λ e. e }) .shows all k m)
+unfolding every
+named-stays x = named-off moving x refl
 
 names-none : (s : Row) → s .kind ≡ kindSecurity → named s ≡ []
 unfolding named
@@ -51,7 +46,7 @@ module _ {rs m : List Row} (book : SoundBook rs) (lead : Leads rs m) where
   pub same-found : (k : Key) → among (k .kind) touched ≡ false → found k (swept m) ≡ found k rs
   same-found k off =
       let clash : (x : Row) (j : ℕ) → x .kind ≡ j → among j touched ≡ true → hasKey k x ≡ false =
-      λ x j e y. key-of k x (λ q. untouched (k .kind) j off y (sym e ∙ q))
+      λ x j e y. key-of k x (λ q. not-among touched (k .kind) j off y (sym e ∙ q))
       in
       finds-same lead k (λ (x : Row). x)
       (record {

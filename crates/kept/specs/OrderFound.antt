@@ -56,7 +56,7 @@ module _ {rs : List Row} {input : Row} {broker number price charge commission : 
     where
       lots : x .kind ≡ kindLot → LotRight (left o) x
       lots k =
-          let here = of-off o kindLot (refl, refl, refl, refl) x m k in
+          let here = of-off o kindLot refl x m k in
           let was = book o .s8 x here .0 k in
           let t = done-same (x .id) (was .0 .0 .0 .0) in (
             (
@@ -67,7 +67,7 @@ module _ {rs : List Row} {input : Row} {broker number price charge commission : 
                 ),
                 ap (λ (r : Row). r .symbol) t ∙ was .0 .0 .1,
               ),
-              off-count o kindLot (refl, refl, refl, refl) (otherSign x)
+              off-count o kindLot refl (otherSign x)
                   (λ y n. rw (ne-eqb (y .kind) kindLot n))
                   ∙ was .0 .1,
             ),
@@ -76,11 +76,11 @@ module _ {rs : List Row} {input : Row} {broker number price charge commission : 
 
       sums : x .kind ≡ kindSummary → SummaryRight (left o) x
       sums k =
-          let here = of-off o kindSummary (refl, refl, refl, refl) x m k in
+          let here = of-off o kindSummary refl x m k in
           let was = book o .s8 x here .1 k in
           let p = lotOf (x .party) (x .symbol) in
           let same =
-          off-count o kindLot (refl, refl, refl, refl) p (λ y n. rw (ne-eqb (y .kind) kindLot n))
+          off-count o kindLot refl p (λ y n. rw (ne-eqb (y .kind) kindLot n))
           in
           let f = sharesOf (x .party) (x .symbol) in (
             omega (arith, same, was .0),
@@ -93,7 +93,7 @@ module _ {rs : List Row} {input : Row} {broker number price charge commission : 
 
   settled : (i : ℕ) → count (hasKey (aSettlement i)) (left o) ≡ count (hasKey (aSettlement i)) rs
   settled i =
-      off-count o kindSettlement (refl, refl, refl, refl) (hasKey (aSettlement i)) (key-of (aSettlement i))
+      off-count o kindSettlement refl (hasKey (aSettlement i)) (key-of (aSettlement i))
 
   trades-settled : All Settled (left o)
   trades-settled =
@@ -110,26 +110,26 @@ module _ {rs : List Row} {input : Row} {broker number price charge commission : 
           → (x .flags ≡ bit (cash (found (aTrade (x .id)) (left o) .flags)))
           × (count (hasKey (aCash (x .id))) (left o) ≡ x .flags)
       of-settlement k =
-          let here = of-off o kindSettlement (refl, refl, refl, refl) x m k in
+          let here = of-off o kindSettlement refl x m k in
           let was = book o .s9 x here .0 .1 k in
           let t = trade-same (x .id) (other o x here (rw k)) in (
             was .0 ∙ ap (λ (r : Row). bit (cash (r .flags))) (sym t),
-            off-count o kindCash (refl, refl, refl, refl) (hasKey (aCash (x .id))) (key-of (aCash (x .id)))
+            off-count o kindCash refl (hasKey (aCash (x .id))) (key-of (aCash (x .id)))
                 ∙ was .1,
           )
 
       of-cash : x .kind ≡ kindCash
           → (found (aSettlement (x .id)) (left o) .flags ≡ 1) × (found (aSettlement (x .id)) (left o) .m1 ≡ x .m1)
       of-cash k =
-          let here = of-off o kindCash (refl, refl, refl, refl) x m k in
+          let here = of-off o kindCash refl x m k in
           let was = book o .s9 x here .1 k in
-          let s = off-found o (aSettlement (x .id)) (refl, refl, refl, refl) in
+          let s = off-found o (aSettlement (x .id)) refl in
           (ap (λ (r : Row). r .flags) s ∙ was .0, ap (λ (r : Row). r .m1) s ∙ was .1)
 
   -- ---- S10
   pub done-left : S10 (left o)
   done-left x m k =
-      let was = book o .s10 x (of-off o kindLotHistory (refl, refl, refl, refl) x m k) k in (
+      let was = book o .s10 x (of-off o kindLotHistory refl x m k) k in (
         ap (λ (r : Row). r .status) (done-same (x .id) (was .0)) ∙ was .0,
         ap (λ (r : Row). r .status) (done-same (x .m2) (was .1)) ∙ was .1,
       )

@@ -2,7 +2,7 @@
 -- as they were. Assumes nothing.
 use mathlib.Core.Path.{_≡_, refl, sym, ap, _∙_}
 use mathlib.Core.Bool.{Bool, true, false, cond}
-use mathlib.Core.List.{List, List·Memᴰ, List·Memᴰ·head}
+use mathlib.Core.List.{List, [], _∷_, List·Memᴰ, List·Memᴰ·head}
 use mathlib.Core.Logic.{_⊎_, inl, inr, ⊎-elim}
 use Prim.Native.Nat.{ℕ, _+_}
 use native.Mathlib.Omega.{arith}
@@ -23,7 +23,8 @@ use Rattle.model.specs.SoundMeans.{S2, S3, S4, S5, There}
 use Rattle.tables.specs.Found.{own-number}
 use Rattle.result.specs.Apart.{found-kind, found-member, names-broker, other-kind, own-key}
 use Rattle.feed.specs.Steps.{OfKind, key-of, kind-of}
-use Rattle.kept.specs.Cases.{by-cases, no, not-so}
+use Rattle.kept.specs.ResultEach.{lotKinds}
+use Rattle.kept.specs.Cases.{by-cases, no, not-among, not-so}
 use Rattle.kept.specs.Looks.{rates-alike}
 use Rattle.kept.specs.OrderAdds.{grown, grown-comes, grown-count, grown-each, grown-total, still-count}
 use Rattle.kept.specs.OrderAdds.{still-the, still-was}
@@ -31,11 +32,9 @@ use Rattle.kept.specs.OrderFresh.{Taken, added, book, count-added, each-
 use Rattle.kept.specs.OrderFresh.{not-numbered, request, trade}
 use Rattle.kept.specs.ResultNames.{named-aside}
 
--- a kind of rows that an order does not add
-abbrev Off : ℕ → Type 0
-Off k =
-    (eqb kindFree k ≡ false) × (eqb kindTrade k ≡ false) × (eqb kindTradeHistory k ≡ false)
-    × (eqb kindRequest k ≡ false)
+-- the kinds of which an order adds rows
+abbrev pub orderKinds : List ℕ
+orderKinds = kindFree ∷ kindTrade ∷ kindTradeHistory ∷ kindRequest ∷ []
 
 -- a row of another kind than the key's
 pub off-key : (k : Key) (x : Row) → eqb (x .kind) (k .kind) ≡ false → hasKey k x ≡ false
@@ -57,28 +56,28 @@ module _ {rs : List Row} {input : Row} {broker number price charge commission : 
   left = grown rs (added o)
 
   -- ---- rows of kinds that are not added
-  module _ (k : ℕ) (off : Off k) (p : Row → Bool) (only : OfKind k p) where
-    off-row : (x : Row) → eqb (x .kind) k ≡ false → p x ≡ false
-    off-row x e = only x (eqb-false (x .kind) k e)
+  module _ (k : ℕ) (off : among k orderKinds ≡ false) (p : Row → Bool) (only : OfKind k p) where
+    off-row : (x : Row) → among (x .kind) orderKinds ≡ true → p x ≡ false
+    off-row x e = only x (not-among orderKinds k (x .kind) off e)
 
     off-added : All (λ (h : Row). p h ≡ false) (added o)
     off-added =
-        each-added o (λ h. p h ≡ false) (off-row (trade o) (off .1)) (off-row (history o) (off .2))
-        (λ e. off-row (request o) (off .3))
+        each-added o (λ h. p h ≡ false) (off-row (trade o) refl) (off-row (history o) refl)
+        (λ e. off-row (request o) refl)
 
     pub off-count : count p left ≡ count p rs
-    off-count = still-count rs (added o) (o .space) p (off-row nothing (off .0)) off-added
+    off-count = still-count rs (added o) (o .space) p (off-row nothing refl) off-added
 
     off-the : (d : Row) → the p d left ≡ the p d rs
-    off-the = still-the rs (added o) (o .space) p (off-row nothing (off .0)) off-added
+    off-the = still-the rs (added o) (o .space) p (off-row nothing refl) off-added
 
     off-was : (x : Row) → List·Memᴰ x left → p x ≡ true → List·Memᴰ x rs
-    off-was = still-was rs (added o) (o .space) p (off-row nothing (off .0)) off-added
+    off-was = still-was rs (added o) (o .space) p (off-row nothing refl) off-added
 
-  pub of-off : (k : ℕ) → Off k → (x : Row) → List·Memᴰ x left → x .kind ≡ k → List·Memᴰ x rs
+  pub of-off : (k : ℕ) → among k orderKinds ≡ false → (x : Row) → List·Memᴰ x left → x .kind ≡ k → List·Memᴰ x rs
   of-off k off x m e = off-was k off (is k) (kind-of k) x m (eq-eqb (x .kind) k e)
 
-  pub off-found : (k : Key) → Off (k .kind) → found k left ≡ found k rs
+  pub off-found : (k : Key) → among (k .kind) orderKinds ≡ false → found k left ≡ found k rs
   unfolding found
   off-found k off = off-the (k .kind) off (hasKey k) (key-of k) nothing
 
@@ -185,7 +184,7 @@ module _ {rs : List Row} {input : Row} {broker number price charge commission : 
   unfolding named
   names-left =
       grown-each rs (added o) (o .space) Named
-      (λ x m k h. stays k (named-aside x k h .0) (book o .s3 x m k h))
+      (λ x m k h. stays k (ne-eqb kindFree (k .kind) (not-among lotKinds (k .kind) kindFree (named-aside x k h) refl)) (book o .s3 x m k h))
       (each-added o Named
       (all-more Stays _ _ (stays (anAccount (input .party)) refl (o .account))
       (all-one Stays _ (stays (aSecurity (input .symbol)) refl (o .security))))
@@ -196,16 +195,16 @@ module _ {rs : List Row} {input : Row} {broker number price charge commission : 
   -- ---- S4
   pub bands-left : S4 left
   bands-left x m e =
-      off-count kindBand (refl, refl, refl, refl) (overlaps x)
+      off-count kindBand refl (overlaps x)
       (λ y n. rw (ne-eqb (y .kind) kindBand n))
-      ∙ book o .s4 x (of-off kindBand (refl, refl, refl, refl) x m e) e
+      ∙ book o .s4 x (of-off kindBand refl x m e) e
 
   -- ---- S5
   pub rates-left : S5 left
   rates-left x m e =
-      let was = book o .s5 x (of-off kindCustomer (refl, refl, refl, refl) x m e) e in
+      let was = book o .s5 x (of-off kindCustomer refl x m e) e in
       let same =
-      rates-alike left rs (λ i. off-found (aTaxRate i) (refl, refl, refl, refl))
+      rates-alike left rs (λ i. off-found (aTaxRate i) refl)
       (λ μ none. grown-total rs (added o) (o .space) μ (none nothing (λ z. omega arith))
       (each-added o (λ h. μ h ≡ 0) (none (trade o) (λ z. omega arith)) (none (history o) (λ z. omega arith))
       (λ e. none (request o) (λ z. omega arith))))

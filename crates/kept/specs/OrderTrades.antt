@@ -64,7 +64,7 @@ module _ {rs : List Row} {input : Row} {broker number price charge commission : 
       × ((t .status ≡ pending → ⊥) → count (hasKey (aRequest (t .id))) (left o) ≡ 0)
 
   broker-same : (t : Row) → found (anAccount (t .party)) (left o) .n1 ≡ found (anAccount (t .party)) rs .n1
-  broker-same t = ap (λ (a : Row). a .n1) (off-found o (anAccount (t .party)) (refl, refl, refl, refl))
+  broker-same t = ap (λ (a : Row). a .n1) (off-found o (anAccount (t .party)) refl)
 
   old-asked : All Asked rs
   old-asked t m k =

@@ -1,19 +1,19 @@
 -- The rows that a result leaves: those of kinds that it does not write are as they were, and every key is there still
 -- but those of lots and summaries. Assumes nothing.
-use mathlib.Core.Path.{_≡_, sym, ap, _∙_}
+use mathlib.Core.Path.{refl, _≡_, sym, ap, _∙_}
 use mathlib.Core.Bool.{Bool, true, false}
-use mathlib.Core.List.{List, List·Memᴰ, Memᴰ·append-left, Memᴰ·append-right}
+use mathlib.Core.List.{List, [], _∷_, List·Memᴰ, Memᴰ·append-left, Memᴰ·append-right}
 use Prim.Native.Nat.{ℕ, _≤_}
 use native.Mathlib.Omega.{arith}
 use lib.Dec.{eqb}
 use lib.ListN.{length}
-use borrow.Author.Tests.{eq-eqb, eqb-false}
+use borrow.Author.Tests.{eq-eqb, eqb-false, eqb-true}
 use Rattle.laws.specs.All.{All}
 use Rattle.laws.specs.Change.{puts}
 use Rattle.laws.specs.Search.{count, the, total}
 use Rattle.record.specs.Codes.{kindAccount, kindBroker, kindCash, kindFree, kindSettlement, kindTrade}
 use Rattle.record.specs.Codes.{kindTradeHistory}
-use Rattle.record.specs.Key.{keyOf, sameKey}
+use Rattle.record.specs.Key.{among, keyOf, sameKey}
 use Rattle.record.specs.declared.key.Key.{Key}
 use Rattle.record.specs.declared.row.Row.{Row}
 use Rattle.model.specs.Lots.{Closing}
@@ -22,18 +22,18 @@ use Rattle.shelf.specs.Put.{row-itself, same-rows}
 use Rattle.result.specs.Apart.{broker-key, holding-key, key-kind, trade-key}
 use Rattle.result.specs.Own.{Read, Sums, added, brokerWrite, tradeWrite, writes}
 use Rattle.feed.specs.Steps.{OfKind, key-of, kind-of}
-use Rattle.kept.specs.Cases.{no}
+use Rattle.kept.specs.Cases.{no, not-among}
 use Rattle.kept.specs.Posted.{adds, same-sums}
 use Rattle.kept.specs.ResultBase.{all, all-inside}
-use Rattle.kept.specs.ResultEach.{Aside, by-kind}
+use Rattle.kept.specs.ResultEach.{by-kind, lotKinds}
 use Rattle.laws.specs.Puts.{Inside, More, Quiet, each-row, has-come, mem-map, no-fewer, no-more, puts-total, the-puts}
 
--- a kind of rows that a result does not write
+-- the other kinds that a result writes, and a kind that it does not
+abbrev ownKinds : List ℕ
+ownKinds = kindTradeHistory ∷ kindSettlement ∷ kindCash ∷ kindAccount ∷ kindTrade ∷ kindBroker ∷ []
+
 abbrev pub Still : ℕ → Type 0
-Still k =
-    Aside k
-    × ((eqb kindTradeHistory k ≡ false) × (eqb kindSettlement k ≡ false) × (eqb kindCash k ≡ false)
-    × (eqb kindAccount k ≡ false) × (eqb kindTrade k ≡ false) × (eqb kindBroker k ≡ false))
+Still k = (among k lotKinds ≡ false) × (among k ownKinds ≡ false)
 
 key-alike : (k : Key) (o x : Row) → keyOf x ≡ keyOf o → hasKey k x ≡ hasKey k o
 unfolding hasKey
@@ -92,10 +92,13 @@ module _ {rs : List Row} {t summary account broker : Row} {cs : List Closing}
 
   -- ---- kinds that are not written
   module _ (k : ℕ) (s : Still k) where
+    off : {X : Type 0} (j : ℕ) → among j ownKinds ≡ true → eqb j k ≡ true → X
+    off j e h = absurd (not-among ownKinds k j (s .1) e (eqb-true j k h))
+
     pub still : (p : Row → Bool) → OfKind k p → All (Quiet p) (all r n)
     still p only =
-        by-kind r n (Quiet p) k p only (s .0) (λ w a b. (a, b)) (no (s .1 .0)) (no (s .1 .1)) (no (s .1 .2))
-        (no (s .1 .3)) (no (s .1 .4)) (no (s .1 .5))
+        by-kind r n (Quiet p) k p only (s .0) (λ w a b. (a, b)) (off kindTradeHistory refl) (off kindSettlement refl)
+        (off kindCash refl) (off kindAccount refl) (off kindTrade refl) (off kindBroker refl)
 
     pub still-was : (x : Row) → List·Memᴰ x after → x .kind ≡ k → List·Memᴰ x rs
     still-was x m e = quiet-was (is k) (still (is k) (kind-of k)) x m (eq-eqb (x .kind) k e)
@@ -116,7 +119,7 @@ module _ {rs : List Row} {t summary account broker : Row} {cs : List Closing}
   still-found k s = quiet-found k (still (k .kind) s (hasKey k) (key-of k))
 
   -- ---- every key is there still, but those of lots and summaries
-  pub key-stays : (k : Key) → Aside (k .kind) → count (hasKey k) rs ≤ count (hasKey k) after
+  pub key-stays : (k : Key) → among (k .kind) lotKinds ≡ false → count (hasKey k) rs ≤ count (hasKey k) after
   key-stays k a =
       after-more (hasKey k)
       (by-kind r n (More (hasKey k)) (k .kind) (hasKey k) (key-of k) a (λ w e f h. no e h)
@@ -126,7 +129,7 @@ module _ {rs : List Row} {t summary account broker : Row} {cs : List Closing}
       (λ e. alike broker (brokerWrite broker n .1) (broker-key broker (n .commission) (r .b-kind))))
     where
       free : hasKey k nothing ≡ true → ⊥
-      free h = eqb-false kindFree (k .kind) (a .0) (key-kind k nothing h)
+      free h = not-among lotKinds (k .kind) kindFree a refl (key-kind k nothing h)
 
       alike : (o x : Row) → keyOf x ≡ keyOf o → hasKey k o ≡ true → hasKey k x ≡ true
       alike o x e h = key-alike k o x e ∙ h

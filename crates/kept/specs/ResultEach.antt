@@ -25,7 +25,8 @@ use Rattle.result.specs.Rows.{accountChanges, cashRow, closedLots, closingRows,
 use Rattle.result.specs.Rows.{lotHistory, newLot, newSummary, openingRows, reduced, settlementRow, summaryChanges}
 use Rattle.result.specs.Rows.{summaryGone, summaryRows, summedShares, tradeHistory}
 use Rattle.feed.specs.Steps.{OfKind}
-use Rattle.kept.specs.Cases.{by-cases}
+use Rattle.record.specs.Key.{among}
+use Rattle.kept.specs.Cases.{by-cases, not-among}
 use Rattle.kept.specs.Posted.{adds}
 use Rattle.kept.specs.ResultBase.{all}
 
@@ -76,10 +77,9 @@ pub record Each (t summary account broker : Row) (cs : List Closing) (n : Sums) 
   pub freed : All (λ (c : Closing). Q (c .lot, nothing)) cs
   pub emptied : is kindFree summary ≡ false → Q (summary, nothing)
 
--- a kind of rows that are not free, nor lots, summaries or lot histories
-abbrev pub Aside : ℕ → Type 0
-Aside k =
-    (eqb kindFree k ≡ false) × (eqb kindLot k ≡ false) × (eqb kindSummary k ≡ false) × (eqb kindLotHistory k ≡ false)
+-- the kinds of which a result takes rows away, and their histories
+abbrev pub lotKinds : List ℕ
+lotKinds = kindFree ∷ kindLot ∷ kindSummary ∷ kindLotHistory ∷ []
 
 module _ {rs : List Row} {t summary account broker : Row} {cs : List Closing}
     (r : Read rs t summary account broker cs) (n : Sums) (Q : Row × Row → Type 0) where
@@ -143,13 +143,16 @@ module _ {rs : List Row} {t summary account broker : Row} {cs : List Closing}
         each-freed)
 
   -- ---- where a test passes rows of such a kind only, no more is to be shown than of the rows of that kind
-  module _ (k : ℕ) (p : Row → Bool) (only : OfKind k p) (a : Aside k)
+  module _ (k : ℕ) (p : Row → Bool) (only : OfKind k p) (a : among k lotKinds ≡ false)
       (quiet : (w : Row × Row) → p (w .0) ≡ false → p (w .1) ≡ false → Q w) where
     off : (j : ℕ) → eqb j k ≡ false → (x : Row) → x .kind ≡ j → p x ≡ false
     off j e x h = only x (λ q. eqb-false j k e (sym h ∙ q))
 
+    aside : (j : ℕ) → among j lotKinds ≡ true → (x : Row) → x .kind ≡ j → p x ≡ false
+    aside j e x h = only x (λ q. not-among lotKinds k j a e (sym h ∙ q))
+
     off-free : p nothing ≡ false
-    off-free = off kindFree (a .0) nothing refl
+    off-free = aside kindFree refl nothing refl
 
     fresh : (j : ℕ) (x : Row) → x .kind ≡ j → (eqb j k ≡ true → Q (nothing, x)) → Q (nothing, x)
     fresh j x h f = by-cases (eqb j k) f (λ e. quiet (nothing, x) off-free (off j e x h))
@@ -166,23 +169,23 @@ module _ {rs : List Row} {t summary account broker : Row} {cs : List Closing}
         → All Q (all r n)
     by-kind f1 f2 f3 f4 f5 f6 =
         each-write (record {
-          closed = λ c m. quiet (nothing, closingOf t c) off-free (off kindLotHistory (a .3) (closingOf t c) refl);
-          opened = λ z. quiet (nothing, openingOf t n) off-free (off kindLotHistory (a .3) (openingOf t n) refl);
-          lot = λ z. quiet (nothing, lotOpened t n) off-free (off kindLot (a .1) (lotOpened t n) refl);
+          closed = λ c m. quiet (nothing, closingOf t c) off-free (aside kindLotHistory refl (closingOf t c) refl);
+          opened = λ z. quiet (nothing, openingOf t n) off-free (aside kindLotHistory refl (openingOf t n) refl);
+          lot = λ z. quiet (nothing, lotOpened t n) off-free (aside kindLot refl (lotOpened t n) refl);
           begun = λ z.
-              quiet (nothing, summaryOpened t summary) off-free (off kindSummary (a .2) (summaryOpened t summary) refl);
+              quiet (nothing, summaryOpened t summary) off-free (aside kindSummary refl (summaryOpened t summary) refl);
           history = fresh kindTradeHistory (historyOf t n) refl f1;
           settled = fresh kindSettlement (settlementOf t n) refl f2;
           paid = λ z. fresh kindCash (cashOf t n) refl (λ e. f3 e z);
           less = λ c m z.
-              quiet (c .lot, lotAfter t c) (off kindLot (a .1) (c .lot) (r .c-held c m .1))
-              (off kindLot (a .1) (lotAfter t c) (r .c-held c m .1));
+              quiet (c .lot, lotAfter t c) (aside kindLot refl (c .lot) (r .c-held c m .1))
+              (aside kindLot refl (lotAfter t c) (r .c-held c m .1));
           summed = λ z g.
-              quiet (summary, summaryAfter t summary) (off kindSummary (a .2) summary (r .s-held z .1))
-              (off kindSummary (a .2) (summaryAfter t summary) (r .s-held z .1));
+              quiet (summary, summaryAfter t summary) (aside kindSummary refl summary (r .s-held z .1))
+              (aside kindSummary refl (summaryAfter t summary) (r .s-held z .1));
           balanced = turned kindAccount account (holding account (n .balance)) (r .a-kind) (r .a-kind) f4;
           trade = turned kindTrade t (tradeWrite t n .1) (r .t-kind) (r .t-kind) f5;
           gained = turned kindBroker broker (brokerWrite broker n .1) (r .b-kind) (r .b-kind) f6;
-          freed = λ c m. quiet (c .lot, nothing) (off kindLot (a .1) (c .lot) (r .c-held c m .1)) off-free;
-          emptied = λ z. quiet (summary, nothing) (off kindSummary (a .2) summary (r .s-held z .1)) off-free;
+          freed = λ c m. quiet (c .lot, nothing) (aside kindLot refl (c .lot) (r .c-held c m .1)) off-free;
+          emptied = λ z. quiet (summary, nothing) (aside kindSummary refl summary (r .s-held z .1)) off-free;
         })

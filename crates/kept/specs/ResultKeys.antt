@@ -29,7 +29,7 @@ use Rattle.result.specs.Own
 use Rattle.result.specs.Own.{Read, Sums, added, all-own}
 use Rattle.result.specs.Posted.{of-kind}
 use Rattle.result.specs.Rows.{closingRows, finalRows, openingRows, summaryRows}
-use Rattle.kept.specs.Cases.{by-cases}
+use Rattle.kept.specs.Cases.{by-cases, one-bit}
 use Rattle.kept.specs.Posted.{adds}
 use Rattle.kept.specs.ResultBase.{all, all-inside}
 use Rattle.kept.specs.ResultEach.{cashOf, closingOf, historyOf, lotOpened, openingOf, settlementOf}
@@ -46,25 +46,12 @@ kinds x =
 
 one-kind : (x : ℕ) → kinds x ≤ 1
 one-kind x =
-    go (eqb x kindLotHistory) (eqb x kindLot) (eqb x kindSummary) (eqb x kindTradeHistory) (eqb x kindSettlement) refl
-    refl refl refl refl
+    at kindLotHistory (omega arith) (λ a. at kindLot (omega arith) (λ b. at kindSummary (omega arith) (λ c.
+    at kindTradeHistory (omega arith) (λ d. at kindSettlement (omega arith) (λ f.
+    rw (a, b, c, d, f) (omega (arith, one-bit (eqb x kindCash))))))))
   where
-    known : (n : ℕ) → eqb x n ≡ true → kinds n ≤ 1 → kinds x ≤ 1
-    known n e h = subst (λ (y : ℕ). kinds y ≤ 1) (sym (eqb-true x n e)) h
-
-    last : (t : Bool) → bit t ≤ 1
-    last true = omega arith
-    last false = omega arith
-
-    go : (a b c d f : Bool) → eqb x kindLotHistory ≡ a → eqb x kindLot ≡ b → eqb x kindSummary ≡ c
-        → eqb x kindTradeHistory ≡ d → eqb x kindSettlement ≡ f → kinds x ≤ 1
-    go true b c d f ea eb ec ed ef = known kindLotHistory ea (omega arith)
-    go false true c d f ea eb ec ed ef = known kindLot eb (omega arith)
-    go false false true d f ea eb ec ed ef = known kindSummary ec (omega arith)
-    go false false false true f ea eb ec ed ef = known kindTradeHistory ed (omega arith)
-    go false false false false true ea eb ec ed ef = known kindSettlement ef (omega arith)
-    go false false false false false ea eb ec ed ef =
-        rw (ea, eb, ec, ed, ef) (let h = last (eqb x kindCash) in omega arith)
+    at : (n : ℕ) → kinds n ≤ 1 → (eqb x n ≡ false → kinds x ≤ 1) → kinds x ≤ 1
+    at n h f = by-cases (eqb x n) (λ e. subst (λ (y : ℕ). kinds y ≤ 1) (sym (eqb-true x n e)) h) f
 
 module _ {rs : List Row} {t summary account broker : Row} {cs : List Closing}
     (r : Read rs t summary account broker cs) (n : Sums)

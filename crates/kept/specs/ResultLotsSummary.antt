@@ -11,7 +11,6 @@ use lib.ListN.{length}
 use borrow.Author.Tests.{eq-eqb, eqb-true}
 use mir.Syntax.{w64}
 use mir.Val.{toZ}
-use Rattle.laws.specs.Keep.{count-has}
 use Rattle.laws.specs.Search.{bit, count, sumZ, total}
 use Rattle.laws.specs.Tests.{and-left, and-right}
 use Rattle.record.specs.Codes.{kindFree, kindSummary}
@@ -25,7 +24,7 @@ use Rattle.shelf.specs.Put.{found-has}
 use Rattle.tables.specs.Names.{by-holder, ofParty}
 use Rattle.result.specs.Apart.{found-live}
 use Rattle.result.specs.Own.{Read, Sums, added}
-use Rattle.kept.specs.Cases.{by-cases}
+use Rattle.kept.specs.Cases.{none-passes}
 use Rattle.kept.specs.ResultFresh.{no-summary, none-found}
 use Rattle.kept.specs.ResultLotsSides.{eq-sides, other-side, part, sum-sides, zero-sides}
 use Rattle.kept.specs.ResultLotsSum.{Walked, no-shares}
@@ -46,15 +45,11 @@ count-below p f (x ∷ k) h =
 
 -- ---- lots and their sum
 module _ (a y : ℕ) (l : List Row) where
-  none-is : count (lotOf a y) l ≡ 0 → (x : Row) → List·Memᴰ x l → lotOf a y x ≡ false
-  none-is e x m =
-      by-cases (lotOf a y x) (λ h. let k = count-has (lotOf a y) x l m h in absurd (omega arith)) (λ h. h)
-
   -- no lots, no shares
   pub no-lots : count (lotOf a y) l ≡ 0 → sumZ (sharesOf a y) l ≡ pos 0
   no-lots e =
-      let u = total-zero (λ x. part true (sharesOf a y x)) l (λ x m. no-shares true a y x (none-is e x m)) in
-      let w = total-zero (λ x. part false (sharesOf a y x)) l (λ x m. no-shares false a y x (none-is e x m)) in
+      let u = total-zero (λ x. part true (sharesOf a y x)) l (λ x m. no-shares true a y x (none-passes (lotOf a y) l e x m)) in
+      let w = total-zero (λ x. part false (sharesOf a y x)) l (λ x m. no-shares false a y x (none-passes (lotOf a y) l e x m)) in
       let s = sum-sides true (sharesOf a y) l in
       eq-sides true (sumZ (sharesOf a y) l) (pos 0) (omega arith)
 

@@ -1,19 +1,17 @@
 -- A result that is done leaves S3, S4 and S5: all that is named is there, and bands and rates are as they were. Assumes
 -- nothing.
 use mathlib.Core.Path.{_≡_, refl, sym, subst, _∙_}
-use mathlib.Core.Bool.{Bool, true, not, _&&_}
+use mathlib.Core.Bool.{false, Bool, true, not}
 use mathlib.Core.List.{List, [], _∷_, List·Memᴰ, List·Memᴰ·head}
 use Prim.Native.Nat.{ℕ, zero, suc, _≤_}
 use native.Mathlib.Omega.{arith}
-use lib.Dec.{eqb}
 use lib.ListN.{getD, length}
 use borrow.Author.Tests.{eq-eqb, ne-eqb, not-true}
 use Rattle.laws.specs.All.{All, all-more, all-none, all-one}
 use Rattle.laws.specs.Keep.{count-has}
 use Rattle.laws.specs.Search.{count, every, means-every}
 use Rattle.laws.specs.Tests.{and-left, and-right}
-use Rattle.record.specs.Codes.{kindBand, kindBroker, kindCustomer, kindCustomerRate, kindFree, kindLot, kindLotHistory}
-use Rattle.record.specs.Codes.{kindSummary, kindTrade}
+use Rattle.record.specs.Codes.{kindBand, kindBroker, kindCustomer, kindCustomerRate, kindLot, kindSummary, kindTrade}
 use Rattle.record.specs.declared.key.Key.{Key}
 use Rattle.record.specs.declared.row.Row.{Row}
 use Rattle.model.specs.Lots.{Closing}
@@ -25,43 +23,38 @@ use Rattle.tables.specs.Found.{own-number}
 use Rattle.result.specs.Apart.{names-account, names-broker}
 use Rattle.result.specs.Own.{Read, Sums, added, brokerWrite, tradeWrite}
 use Rattle.result.specs.Rows.{holding}
+use Rattle.record.specs.Key.{among}
 use Rattle.kept.specs.Looks.{rates-alike}
 use Rattle.kept.specs.ResultAfter.{after, after-each, key-stays, quiet-count, still, still-found, still-sum}
 use Rattle.kept.specs.ResultAfter.{still-was}
-use Rattle.kept.specs.ResultEach.{Aside, Each, each-write, lotAfter, summaryAfter}
+use Rattle.kept.specs.ResultEach.{Each, each-write, lotAfter, lotKinds, summaryAfter}
 use Rattle.kept.specs.ResultFresh.{book}
 
--- ---- what a row names is no lot, no summary and no lot history
-abbrev aside : Key → Bool
-aside k =
-    not (eqb kindFree (k .kind)) && not (eqb kindLot (k .kind)) && not (eqb kindSummary (k .kind))
-    && not (eqb kindLotHistory (k .kind))
-
-pub every-or : {A : Type 0} (p : A → Bool) (d : A) (l : List A) (i : ℕ) → every p l ≡ true → p d ≡ true
+-- ---- what a row names is of certain kinds only
+every-or : {A : Type 0} (p : A → Bool) (d : A) (l : List A) (i : ℕ) → every p l ≡ true → p d ≡ true
     → p (getD l i d) ≡ true
 unfolding every
 every-or p d [] i e h = h
 every-or p d (x ∷ l) zero e h = and-left (p x) (every p l) e
 every-or p d (x ∷ l) (suc i) e h = every-or p d l i (and-right (p x) (every p l) e) h
 
-pub named-aside : (x : Row) (k : Key) → List·Memᴰ k (named x) → Aside (k .kind)
+abbrev off : List ℕ → Key → Bool
+off l k = not (among (k .kind) l)
+
+pub named-off : (l : List ℕ) (x : Row) → every (λ (f : Row → List Key). every (off l) (f x)) names ≡ true
+    → (k : Key) → List·Memᴰ k (named x) → among (k .kind) l ≡ false
 unfolding named every
-named-aside x k m =
-    let all : every aside (named x) ≡ true =
-    every-or (λ (f : Row → List Key). every aside (f x)) (λ (s : Row). []) names (x .kind) refl refl
+named-off l x e k m =
+    let all : every (off l) (named x) ≡ true =
+    every-or (λ (f : Row → List Key). every (off l) (f x)) (λ (s : Row). []) names (x .kind) e refl
     in
-    let one : aside k ≡ true = means-every (named x) (λ j. record { shows = λ e. e; holds = λ e. e }) .shows all k m in
-    let a = not (eqb kindFree (k .kind)) in
-    let b = not (eqb kindLot (k .kind)) in
-    let c = not (eqb kindSummary (k .kind)) in
-    let d = not (eqb kindLotHistory (k .kind)) in
-    let abc = and-left (a && b && c) d one in
-    let ab = and-left (a && b) c abc in (
-      not-true (eqb kindFree (k .kind)) (and-left a b ab),
-      not-true (eqb kindLot (k .kind)) (and-right a b ab),
-      not-true (eqb kindSummary (k .kind)) (and-right (a && b) c abc),
-      not-true (eqb kindLotHistory (k .kind)) (and-right (a && b && c) d one),
-    )
+    not-true (among (k .kind) l)
+    (means-every {p = off l} (named x) (λ j. record { shows = λ h. h; holds = λ h. h }) .shows all k m)
+
+-- no lot, no summary and no lot history
+pub named-aside : (x : Row) (k : Key) → List·Memᴰ k (named x) → among (k .kind) lotKinds ≡ false
+unfolding every
+named-aside x = named-off lotKinds x refl
 
 names-lot : (l : Row) → l .kind ≡ kindLot
     → named l ≡ aTrade (l .id) ∷ anAccount (l .party) ∷ aSecurity (l .symbol) ∷ []
@@ -96,7 +89,7 @@ module _ {rs : List Row} {t summary account broker : Row} {cs : List Closing}
   own-trade =
       let own = own-number kindTrade refl (t .id) t (eq-eqb (t .kind) kindTrade (r .t-kind)) refl in
       let was = count-has (hasKey (aTrade (t .id))) t rs (r .t-held) own in
-      let more = key-stays r n space (aTrade (t .id)) (refl, refl, refl, refl) in
+      let more = key-stays r n space (aTrade (t .id)) refl in
       omega arith
 
   -- the account and the security of the trade
@@ -152,10 +145,10 @@ module _ {rs : List Row} {t summary account broker : Row} {cs : List Closing}
   pub bands-left : S4 (after r n space)
   bands-left x m e =
       quiet-count r n space (overlaps x)
-      (still r n space kindBand ((refl, refl, refl, refl), (refl, refl, refl, refl, refl, refl)) (overlaps x)
+      (still r n space kindBand (refl, refl) (overlaps x)
       (λ y d. rw (ne-eqb (y .kind) kindBand d)))
       ∙ book r n .s4 x
-      (still-was r n space kindBand ((refl, refl, refl, refl), (refl, refl, refl, refl, refl, refl)) x m e)
+      (still-was r n space kindBand (refl, refl) x m e)
       e
 
   -- ---- S5
@@ -163,12 +156,12 @@ module _ {rs : List Row} {t summary account broker : Row} {cs : List Closing}
   rates-left x m e =
       let was =
       book r n .s5 x
-      (still-was r n space kindCustomer ((refl, refl, refl, refl), (refl, refl, refl, refl, refl, refl)) x m e) e
+      (still-was r n space kindCustomer (refl, refl) x m e) e
       in
       let same =
       rates-alike (after r n space) rs
-      (λ i. still-found r n space (aTaxRate i) ((refl, refl, refl, refl), (refl, refl, refl, refl, refl, refl)))
-      (still-sum r n space kindCustomerRate ((refl, refl, refl, refl), (refl, refl, refl, refl, refl, refl)))
+      (λ i. still-found r n space (aTaxRate i) (refl, refl))
+      (still-sum r n space kindCustomerRate (refl, refl))
       (x .party)
       in
       omega arith

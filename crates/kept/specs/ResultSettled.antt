@@ -46,10 +46,10 @@ module _ {rs : List Row} {t summary account broker : Row} {cs : List Closing}
 
   -- ---- settlements and cash rows of other trades
   settlements-quiet : (i : ℕ) → (t .id ≡ i → ⊥) → All (Quiet (hasKey (aSettlement i))) (all r n)
-  settlements-quiet = others r n s-own space kindSettlement refl (refl, refl, refl, refl) refl refl refl
+  settlements-quiet = others r n s-own space kindSettlement refl refl refl refl refl
 
   cash-quiet : (i : ℕ) → (t .id ≡ i → ⊥) → All (Quiet (hasKey (aCash i))) (all r n)
-  cash-quiet = others r n s-own space kindCash refl (refl, refl, refl, refl) refl refl refl
+  cash-quiet = others r n s-own space kindCash refl refl refl refl refl
 
   -- a settlement or a cash row that was there is one of another trade
   not-own : (k : ℕ) → among k idKinds ≡ true → count (hasKey (byId k (t .id))) rs ≡ 0 → (x : Row) → List·Memᴰ x rs
@@ -91,7 +91,7 @@ module _ {rs : List Row} {t summary account broker : Row} {cs : List Closing}
           let none = no-cash r n in
           let few =
           after-fewer r n space (hasKey k)
-          (by-kind r n (Fewer (hasKey k)) kindCash (hasKey k) (key-of k) (refl, refl, refl, refl)
+          (by-kind r n (Fewer (hasKey k)) kindCash (hasKey k) (key-of k) refl
           (λ w a b h. no b h) (no refl) (no refl) (λ q z. no e z) (no refl) (no refl) (no refl))
           in
           omega arith
@@ -122,7 +122,7 @@ module _ {rs : List Row} {t summary account broker : Row} {cs : List Closing}
         quiet-count r n space (hasKey (aCash (x .id))) (cash-quiet (x .id) ne) ∙ was .1,
       ))
       (by-kind r n (λ (w : Row × Row). Settled (w .1)) kindSettlement (is kindSettlement)
-      (kind-of kindSettlement) (refl, refl, refl, refl)
+      (kind-of kindSettlement) refl
       (λ w a b k. absurd (eqb-false (w .1 .kind) kindSettlement b k)) (no refl)
       (λ e k. (
         flag-bit (cash (t .flags)) ∙ ap (λ (y : Row). bit (cash (y .flags))) (sym (trade-done r n s-own space)),
@@ -147,7 +147,7 @@ module _ {rs : List Row} {t summary account broker : Row} {cs : List Closing}
       let same = quiet-found r n space (aSettlement (x .id)) (settlements-quiet (x .id) ne) in
       (ap (λ (y : Row). y .flags) same ∙ was .0, ap (λ (y : Row). y .m1) same ∙ was .1))
       (by-kind r n (λ (w : Row × Row). Paid (w .1)) kindCash (is kindCash)
-      (kind-of kindCash) (refl, refl, refl, refl)
+      (kind-of kindCash) refl
       (λ w a b k. absurd (eqb-false (w .1 .kind) kindCash b k)) (no refl) (no refl)
       (λ e z k. (
         ap (λ (y : Row). y .flags) settlement-found ∙ ap (λ (b : Bool). cond b 1 0) z,

@@ -46,7 +46,7 @@ module _ {rs : List Row} {t summary account broker : Row} {cs : List Closing}
 
   -- ---- S6: no request is written, and an account keeps its broker
   requests : Still kindRequest
-  requests = ((refl, refl, refl, refl), (refl, refl, refl, refl, refl, refl))
+  requests = (refl, refl)
 
   same-requests : (i : ℕ) → count (hasKey (aRequest i)) now ≡ count (hasKey (aRequest i)) rs
   same-requests i =
@@ -69,7 +69,7 @@ module _ {rs : List Row} {t summary account broker : Row} {cs : List Closing}
       (sym (found-one rs (book r n .s2) k x (λ z. omega arith) m e)
       ∙ found-one rs (book r n .s2) k account (λ z. omega arith) (r .a-held) account-own))
       (by-kind r n (λ (w : Row × Row). p (w .1) ≡ true → w .1 .n1 ≡ account .n1) kindAccount p (key-of k)
-      (refl, refl, refl, refl) (λ w a b h. no b h) (no refl) (no refl) (no refl) (λ e h. refl) (no refl) (no refl))
+      refl (λ w a b h. no b h) (no refl) (no refl) (no refl) (λ e h. refl) (no refl) (no refl))
     where
       k : Key
       k = anAccount (account .party)
@@ -85,7 +85,7 @@ module _ {rs : List Row} {t summary account broker : Row} {cs : List Closing}
       mine =
           let k = anAccount (account .party) in
           let was = count-has (hasKey k) account rs (r .a-held) account-own in
-          let more = key-stays r n space k (refl, refl, refl, refl) in
+          let more = key-stays r n space k refl in
           let some = le-leb 1 (count (hasKey k) now) (omega arith) in
           own-broker (found k now) (found-member now k some) (found-has k now some)
           ∙ ap (λ (y : Row). y .n1)
@@ -107,7 +107,7 @@ module _ {rs : List Row} {t summary account broker : Row} {cs : List Closing}
           ap (λ (y : Row). y .n1)
           (quiet-found r n space (anAccount i)
           (by-kind r n (Quiet (hasKey (anAccount i))) kindAccount (hasKey (anAccount i)) (key-of (anAccount i))
-          (refl, refl, refl, refl) (λ w a b. (a, b)) (no refl) (no refl) (no refl)
+          refl (λ w a b. (a, b)) (no refl) (no refl) (no refl)
           (λ q. (off account refl ne, off _ refl ne)) (no refl) (no refl)))
 
   same-agree : (x : Row) → count (agrees now x) now ≡ count (agrees rs x) rs
@@ -141,7 +141,7 @@ module _ {rs : List Row} {t summary account broker : Row} {cs : List Closing}
   no-higher x none =
       after-fewer r n space (higher x)
       (by-kind r n (Fewer (higher x)) kindTradeHistory (higher x) (λ y d. rw (ne-eqb (y .kind) kindTradeHistory d))
-      (refl, refl, refl, refl) (λ w a b h. no b h)
+      refl (λ w a b h. no b h)
       (λ e h. absurd (none h)) (no refl) (no refl) (no refl) (no refl) (no refl))
 
   higher-still : (y : Row) → higher (done r n s-own space) y ≡ true → higher t y ≡ true
@@ -167,7 +167,7 @@ module _ {rs : List Row} {t summary account broker : Row} {cs : List Closing}
       let was = book r n .s7 x m k in
       let some = was .0 in
       let none = was .1 in
-      let stays = key-stays r n space (aHistory (x .id) (x .status)) (refl, refl, refl, refl) in
+      let stays = key-stays r n space (aHistory (x .id) (x .status)) refl in
       let few =
       no-higher x
       (λ h.

@@ -27,10 +27,10 @@ use Rattle.result.specs.Place.{frees}
 use Rattle.result.specs.Rows.{accountChanges, closedLots, closingRows, finalRows, lotChanges, openingRows}
 use Rattle.result.specs.Rows.{summaryChanges, summaryGone, summaryRows}
 use Rattle.feed.specs.Steps.{key-of, kind-of}
-use Rattle.kept.specs.Cases.{by-cases, no, not-so}
+use Rattle.kept.specs.Cases.{by-cases, no, not-among, not-so}
 use Rattle.kept.specs.ResultAfter.{added-comes, after, after-each, quiet-found, turned-comes}
 use Rattle.kept.specs.ResultBase.{all}
-use Rattle.kept.specs.ResultEach.{Aside, by-kind, cashOf, historyOf, settlementOf}
+use Rattle.kept.specs.ResultEach.{by-kind, cashOf, historyOf, lotKinds, settlementOf}
 use Rattle.kept.specs.ResultFresh.{found-one}
 use Rattle.kept.specs.ResultKeys.{keys-left}
 use Rattle.laws.specs.Puts.{Quiet}
@@ -89,7 +89,7 @@ module _ {rs : List Row} {t summary account broker : Row} {cs : List Closing}
       (own-number kindTrade refl (t .id) done (eq-eqb (t .kind) kindTrade (r .t-kind)) refl)
 
   -- rows of another number, of a kind that is written with the trade's number
-  pub others : (k : ℕ) → among k idKinds ≡ true → Aside k → eqb kindTradeHistory k ≡ false → eqb kindAccount k ≡ false
+  pub others : (k : ℕ) → among k idKinds ≡ true → among k lotKinds ≡ false → eqb kindTradeHistory k ≡ false → eqb kindAccount k ≡ false
       → eqb kindBroker k ≡ false → (i : ℕ) → (t .id ≡ i → ⊥) → All (Quiet (hasKey (byId k i))) (all r n)
   others k known a h c b i ne =
       by-kind r n (Quiet p) k p (key-of (byId k i)) a (λ w x y. (x, y)) (no h)
@@ -103,11 +103,11 @@ module _ {rs : List Row} {t summary account broker : Row} {cs : List Closing}
       p = hasKey (byId k i)
 
       free : p nothing ≡ false
-      free = key-of (byId k i) nothing (eqb-false kindFree k (a .0))
+      free = key-of (byId k i) nothing (not-among lotKinds k kindFree a refl)
 
   pub trade-other : (i : ℕ) → (t .id ≡ i → ⊥) → found (aTrade i) left ≡ found (aTrade i) rs
   trade-other i ne =
-      quiet-found r n space (aTrade i) (others kindTrade refl (refl, refl, refl, refl) refl refl refl i ne)
+      quiet-found r n space (aTrade i) (others kindTrade refl refl refl refl refl i ne)
 
   -- what holds of the trade that is completed now, and of the others as they were
   pub each-trade : (P : Row → Type 0) → P done
@@ -119,7 +119,7 @@ module _ {rs : List Row} {t summary account broker : Row} {cs : List Closing}
           after-each r n space (λ (y : Row). y .kind ≡ kindTrade → (t .id ≡ y .id → ⊥) → List·Memᴰ y rs)
           (λ y k h ne. k)
           (by-kind r n (λ (w : Row × Row). w .1 .kind ≡ kindTrade → (t .id ≡ w .1 .id → ⊥) → List·Memᴰ (w .1) rs)
-          kindTrade (is kindTrade) (kind-of kindTrade) (refl, refl, refl, refl)
+          kindTrade (is kindTrade) (kind-of kindTrade) refl
           (λ w a b h ne. absurd (eqb-false (w .1 .kind) kindTrade b h)) (no refl) (no refl) (no refl) (no refl)
           (λ q h ne. absurd (ne refl))
           (no refl))

@@ -10,7 +10,8 @@ use Rattle.laws.specs.Keep.{count-has, count-one, the-has}
 use Rattle.laws.specs.Place.{the-none, the-passes}
 use Rattle.laws.specs.Search.{bit, count, the, total}
 use Rattle.laws.specs.Puts.{is-counted, member}
-use Rattle.kept.specs.Cases.{by-cases, cond-no, cond-yes, no}
+use Rattle.kept.specs.Cases.{by-cases, cond-no, cond-yes, no, none-passes}
+use Rattle.laws.specs.Total.{total-zero}
 
 module _ {A : Type 0} (same : A → A → Bool) where
   -- those that pass are there equally often
@@ -158,14 +159,7 @@ module _ {A : Type 0} (p : A → Bool) (f : A → ℕ) (d : A) where
   only x = cond (p x) (f x) 0
 
   only-none : (l : List A) → count p l ≡ 0 → total only l ≡ 0
-  unfolding count total
-  only-none [] h = refl
-  only-none (x ∷ l) h = by-cases (p x)
-      (λ v. let k : 1 + count p l ≡ 0 = rw v at h in absurd (omega arith))
-      (λ v.
-      let k : 0 + count p l ≡ 0 = rw v at h in
-      let ih = only-none l (omega arith) in
-      rw v (omega arith))
+  only-none l h = total-zero only l (λ x m. cond-no (f x) 0 (none-passes p l h x m))
 
   pub the-total : (l : List A) → f d ≡ 0 → count p l ≤ 1 → f (the p d l) ≡ total only l
   unfolding the count total

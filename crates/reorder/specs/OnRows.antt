@@ -23,14 +23,14 @@ use Rattle.shelf.specs.Put.{row-itself, same-rows}
 use Rattle.laws.specs.Total.{total-on}
 use Rattle.reorder.specs.Agree.{Agree, total-agree}
 use Rattle.reorder.specs.Broker.{Field, gain, run-value}
-use Rattle.kept.specs.Cases.{by-cases}
+use Rattle.kept.specs.Cases.{by-cases, one-bit}
 use Rattle.reorder.specs.Inv.{Inv, apart, inv-step, namelessNote}
 use Rattle.reorder.specs.Local.{Fine, local}
 use Rattle.reorder.specs.Sim.{Fines, final, trace, two-runs}
 use Rattle.reorder.specs.Step.{Note}
 use Rattle.reorder.specs.Whose.{aside, mine, mine-none, mine-own, whose}
-use Rattle.reorder.specs.Run.{broker-less, free-none, free-rest, noteTo, on, one-bit, run-inv, run-length}
-use Rattle.reorder.specs.Run.{trace-count, trace-nameless, trace-total}
+use Rattle.reorder.specs.Run.{broker-less, free-none, free-rest, noteTo, on, run-inv, run-length, trace-count}
+use Rattle.reorder.specs.Run.{trace-nameless, trace-total}
 
 -- ---- the theorem
 module _ (book : List Row) (good : sound book ≡ true) (few : length book ≤ mostRecords)

@@ -32,10 +32,6 @@ unfolding count total
 all-counted [] = refl
 all-counted (x ∷ l) = let ih = all-counted l in omega arith
 
-pub one-bit : (b : Bool) → bit b ≤ 1
-one-bit true = omega arith
-one-bit false = omega arith
-
 both-bits : (b : Bool) → bit b + bit (not b) ≡ 1
 both-bits true = refl
 both-bits false = refl

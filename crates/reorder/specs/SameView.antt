@@ -3,7 +3,6 @@
 use mathlib.Core.Path.{_≡_, refl, sym, ap, _∙_}
 use mathlib.Core.Bool.{Bool, true, false, not, _&&_}
 use mathlib.Core.List.{List}
-use mathlib.Core.Logic.{⊎-elim}
 use Prim.Native.Nat.{ℕ, _≤_}
 use native.Mathlib.Omega.{arith}
 use lib.Dec.{eqb, leb}
@@ -14,8 +13,7 @@ use Rattle.laws.specs.Search.{count, the}
 use Rattle.laws.specs.Tests.{Means, _⇔_, and-both, and-left, and-right, means-and, means-eq, means-le}
 use Rattle.record.specs.Codes.{kindAccount, kindBand, kindCustomerRate, kindFree, kindLot, kindLotHistory, kindSummary}
 use Rattle.record.specs.Codes.{kindTrade}
-use Rattle.record.specs.Key.{among, keyOf}
-use Rattle.record.specs.KeyLaws.{same-keys}
+use Rattle.record.specs.Key.{among}
 use Rattle.record.specs.declared.key.Key.{Key}
 use Rattle.record.specs.declared.row.Row.{Row}
 use Rattle.model.specs.Band.{bandFor, bandRate}
@@ -33,6 +31,7 @@ use Rattle.result.specs.Apart.{key-kind}
 use Rattle.laws.specs.Puts.{count-less}
 use Rattle.reorder.specs.Agree.{Agree, the-agree, total-agree}
 use Rattle.kept.specs.Looks.{rates-alike}
+use Rattle.kept.specs.ResultFresh.{one-key}
 use Rattle.kept.specs.Cases.{by-cases, no}
 use Rattle.reorder.specs.Earlier.{before-both, before-total, before-trans}
 use Rattle.reorder.specs.Sorted.{sort-agree}
@@ -40,24 +39,9 @@ use Rattle.reorder.specs.Whose.{aside, byParty, byTrade, mine, mine-none
 use Rattle.reorder.specs.Whose.{whose-trade}
 
 -- S2: a key has one row at most
-key-of : (k : Key) (x : Row) → hasKey k x ≡ true → keyOf x ≡ k
-unfolding hasKey
-key-of k x h = same-keys (keyOf x) k h
-
 pub key-once : (rs : List Row) → sound rs ≡ true → (k : Key) → eqb (k .kind) kindFree ≡ false
     → count (hasKey k) rs ≤ 1
-key-once rs good k live =
-    by-cases (leb 1 (count (hasKey k) rs))
-    (λ some.
-    let x = the (hasKey k) nothing rs in
-    let has = the-passes (hasKey k) nothing rs some in
-    ⊎-elim
-    (λ f. absurd (eqb-false (k .kind) kindFree live (sym (key-kind k x has) ∙ f)))
-    (λ c.
-    let z : count (hasKey k) rs ≡ 1 = ap (λ (y : Key). count (hasKey y) rs) (sym (key-of k x has)) ∙ c in
-    omega arith)
-    (means-sound rs .shows good .s2 x (the-has (hasKey k) nothing rs some)))
-    (λ none. let h = leb-false 1 (count (hasKey k) rs) none in omega arith)
+key-once rs good k live = one-key rs (means-sound rs .shows good .s2) k (eqb-false (k .kind) kindFree live)
 
 -- S4: shares have one band at most
 abbrev Band : ℕ → ℕ → ℕ → ℕ → Row → Type 0
