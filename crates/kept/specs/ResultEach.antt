@@ -60,7 +60,7 @@ abbrev pub summaryAfter : Row → Row → Row
 summaryAfter t summary = holding summary (summedShares t summary)
 
 -- ---- what is to be shown of each
-pub record Each (t summary account broker : Row) (cs : List Closing) (n : Sums) (Q : Row × Row → Type 0) : Type 0 where
+pub record Each (t summary account : Row) (cs : List Closing) (n : Sums) (Q : Row × Row → Type 0) : Type 0 where
   pub closed : All (λ (c : Closing). Q (nothing, closingOf t c)) cs
   pub opened : eqb (n .left) 0 ≡ false → Q (nothing, openingOf t n)
   pub lot : eqb (n .left) 0 ≡ false → Q (nothing, lotOpened t n)
@@ -73,7 +73,6 @@ pub record Each (t summary account broker : Row) (cs : List Closing) (n : Sums) 
       → Q (summary, summaryAfter t summary)
   pub balanced : Q (account, holding account (n .balance))
   pub trade : Q (tradeWrite t n)
-  pub gained : Q (brokerWrite broker n)
   pub freed : All (λ (c : Closing). Q (c .lot, nothing)) cs
   pub emptied : is kindFree summary ≡ false → Q (summary, nothing)
 
@@ -81,66 +80,68 @@ pub record Each (t summary account broker : Row) (cs : List Closing) (n : Sums) 
 abbrev pub lotKinds : List ℕ
 lotKinds = kindFree ∷ kindLot ∷ kindSummary ∷ kindLotHistory ∷ []
 
+module _ {t summary account : Row} {cs : List Closing} {n : Sums} {Q : Row × Row → Type 0}
+    (e : Each t summary account cs n Q) where
+  pub each-added : All (λ (h : Row). Q (nothing, h)) (added t summary cs n)
+  each-added =
+      all-append P (closingRows t cs ++ openingRows t (n .price) (n .left) (n .time) ++ summaryRows t summary)
+      (finalRows t (n .amount) (n .time))
+      (all-append P (closingRows t cs ++ openingRows t (n .price) (n .left) (n .time)) (summaryRows t summary)
+      (all-append P (closingRows t cs) (openingRows t (n .price) (n .left) (n .time))
+      (all-map (closingOf t) P cs (e .closed))
+      (all-cond P (eqb (n .left) 0) [] _ (λ z. all-none P)
+      (λ z. all-more P _ _ (e .opened z) (all-one P _ (e .lot z)))))
+      (all-cond P (not (is kindFree summary)) [] _ (λ z. all-none P)
+      (λ z. all-one P _ (e .begun (not-false (is kindFree summary) z)))))
+      (all-more P _ _ (e .history)
+      (all-more P _ _ (e .settled)
+      (all-cond P (cash (t .flags)) _ [] (λ z. all-one P _ (e .paid z)) (λ z. all-none P))))
+    where
+      P : Row → Type 0
+      P h = Q (nothing, h)
+
+  pub each-freed : All Q (frees (closedLots cs ++ summaryGone t summary))
+  each-freed =
+      all-map (λ (o : Row). (o, nothing)) Q (closedLots cs ++ summaryGone t summary)
+      (all-append P (closedLots cs) (summaryGone t summary)
+      (all-map (λ (c : Closing). c .lot) P (keep (λ (c : Closing). not (reduced c)) cs)
+      (all-keep (λ (c : Closing). P (c .lot)) (λ (c : Closing). not (reduced c)) cs (e .freed)))
+      (all-cond P (not (is kindFree summary) && gone (summedShares t summary)) _ []
+      (λ z. all-one P _ (e .emptied (not-true (is kindFree summary) (and-left _ (gone (summedShares t summary)) z))))
+      (λ z. all-none P)))
+    where
+      P : Row → Type 0
+      P o = Q (o, nothing)
+
+  pub each-changed : All Q
+      (lotChanges t cs ++ summaryChanges t summary ++ accountChanges t account (n .balance) ++ tradeWrite t n ∷ [])
+  each-changed =
+      let w1 = lotChanges t cs in
+      let w2 = summaryChanges t summary in
+      let w3 = accountChanges t account (n .balance) in
+      all-append Q (w1 ++ w2 ++ w3) (tradeWrite t n ∷ [])
+      (all-append Q (w1 ++ w2) w3
+      (all-append Q w1 w2
+      (all-map (λ (c : Closing). (c .lot, lotAfter t c)) Q (keep reduced cs)
+      (λ c m. let k = keep-from reduced c cs m in e .less c (k .0) (k .1)))
+      (all-cond Q (not (is kindFree summary) && not (gone (summedShares t summary))) _ []
+      (λ z. let live = not (is kindFree summary) in let some = not (gone (summedShares t summary)) in
+      all-one Q _ (e .summed (not-true _ (and-left live some z)) (not-true _ (and-right live some z))))
+      (λ z. all-none Q)))
+      (all-cond Q (cash (t .flags)) _ [] (λ z. all-one Q _ (e .balanced)) (λ z. all-none Q)))
+      (all-one Q _ (e .trade))
+
 module _ {rs : List Row} {t summary account broker : Row} {cs : List Closing}
     (r : Read rs t summary account broker cs) (n : Sums) (Q : Row × Row → Type 0) where
-  module _ (e : Each t summary account broker cs n Q) where
-    each-added : All (λ (h : Row). Q (nothing, h)) (added t summary cs n)
-    each-added =
-        all-append P (closingRows t cs ++ openingRows t (n .price) (n .left) (n .time) ++ summaryRows t summary)
-        (finalRows t (n .amount) (n .time))
-        (all-append P (closingRows t cs ++ openingRows t (n .price) (n .left) (n .time)) (summaryRows t summary)
-        (all-append P (closingRows t cs) (openingRows t (n .price) (n .left) (n .time))
-        (all-map (closingOf t) P cs (e .closed))
-        (all-cond P (eqb (n .left) 0) [] _ (λ z. all-none P)
-        (λ z. all-more P _ _ (e .opened z) (all-one P _ (e .lot z)))))
-        (all-cond P (not (is kindFree summary)) [] _ (λ z. all-none P)
-        (λ z. all-one P _ (e .begun (not-false (is kindFree summary) z)))))
-        (all-more P _ _ (e .history)
-        (all-more P _ _ (e .settled)
-        (all-cond P (cash (t .flags)) _ [] (λ z. all-one P _ (e .paid z)) (λ z. all-none P))))
-      where
-        P : Row → Type 0
-        P h = Q (nothing, h)
-
-    each-freed : All Q (frees (closedLots cs ++ summaryGone t summary))
-    each-freed =
-        all-map (λ (o : Row). (o, nothing)) Q (closedLots cs ++ summaryGone t summary)
-        (all-append P (closedLots cs) (summaryGone t summary)
-        (all-map (λ (c : Closing). c .lot) P (keep (λ (c : Closing). not (reduced c)) cs)
-        (all-keep (λ (c : Closing). P (c .lot)) (λ (c : Closing). not (reduced c)) cs (e .freed)))
-        (all-cond P (not (is kindFree summary) && gone (summedShares t summary)) _ []
-        (λ z. all-one P _ (e .emptied (not-true (is kindFree summary) (and-left _ (gone (summedShares t summary)) z))))
-        (λ z. all-none P)))
-      where
-        P : Row → Type 0
-        P o = Q (o, nothing)
-
-    pub each-write : All Q (all r n)
-    each-write =
-        let w1 = lotChanges t cs in
-        let w2 = summaryChanges t summary in
-        let w3 = accountChanges t account (n .balance) in
-        let w4 = tradeWrite t n ∷ [] in
-        let w5 = brokerWrite broker n ∷ [] in
-        let hs = added t summary cs n in
-        let os = closedLots cs ++ summaryGone t summary in
-        all-append Q (adds hs) (w1 ++ w2 ++ w3 ++ w4 ++ w5 ++ frees os)
-        (all-map (λ (h : Row). (nothing, h)) Q hs each-added)
-        (all-append Q (w1 ++ w2 ++ w3 ++ w4 ++ w5) (frees os)
-        (all-append Q (w1 ++ w2 ++ w3 ++ w4) w5
-        (all-append Q (w1 ++ w2 ++ w3) w4
-        (all-append Q (w1 ++ w2) w3
-        (all-append Q w1 w2
-        (all-map (λ (c : Closing). (c .lot, lotAfter t c)) Q (keep reduced cs)
-        (λ c m. let k = keep-from reduced c cs m in e .less c (k .0) (k .1)))
-        (all-cond Q (not (is kindFree summary) && not (gone (summedShares t summary))) _ []
-        (λ z. let live = not (is kindFree summary) in let some = not (gone (summedShares t summary)) in
-        all-one Q _ (e .summed (not-true _ (and-left live some z)) (not-true _ (and-right live some z))))
-        (λ z. all-none Q)))
-        (all-cond Q (cash (t .flags)) _ [] (λ z. all-one Q _ (e .balanced)) (λ z. all-none Q)))
-        (all-one Q _ (e .trade)))
-        (all-one Q _ (e .gained)))
-        each-freed)
+  pub each-write : Each t summary account cs n Q → Q (brokerWrite broker n) → All Q (all r n)
+  each-write e g =
+      let ws = lotChanges t cs ++ summaryChanges t summary ++ accountChanges t account (n .balance)
+      ++ tradeWrite t n ∷ [] in
+      let w = brokerWrite broker n ∷ [] in
+      let os = frees (closedLots cs ++ summaryGone t summary) in
+      all-append Q (adds (added t summary cs n)) (ws ++ w ++ os)
+      (all-map (λ (h : Row). (nothing, h)) Q (added t summary cs n) (each-added e))
+      (all-append Q (ws ++ w) os (all-append Q ws w (each-changed e) (all-one Q _ g)) (each-freed e))
 
   -- ---- where a test passes rows of such a kind only, no more is to be shown than of the rows of that kind
   module _ (k : ℕ) (p : Row → Bool) (only : OfKind k p) (a : among k lotKinds ≡ false)
@@ -185,7 +186,7 @@ module _ {rs : List Row} {t summary account broker : Row} {cs : List Closing}
               (aside kindSummary refl (summaryAfter t summary) (r .s-held z .1));
           balanced = turned kindAccount account (holding account (n .balance)) (r .a-kind) (r .a-kind) f4;
           trade = turned kindTrade t (tradeWrite t n .1) (r .t-kind) (r .t-kind) f5;
-          gained = turned kindBroker broker (brokerWrite broker n .1) (r .b-kind) (r .b-kind) f6;
           freed = λ c m. quiet (c .lot, nothing) (aside kindLot refl (c .lot) (r .c-held c m .1)) off-free;
           emptied = λ z. quiet (summary, nothing) (aside kindSummary refl summary (r .s-held z .1)) off-free;
         })
+        (turned kindBroker broker (brokerWrite broker n .1) (r .b-kind) (r .b-kind) f6)

@@ -100,7 +100,7 @@ module _ {rs : List Row} {t summary account broker : Row} {cs : List Closing}
       (means-summary summary .shows (rule-of kindSummary summary (h .0) (h .1))) summed-near
       (not-gone (summedShares t summary) g)))
 
-  all-fit : Each t summary account broker cs n (λ (w : Row × Row). Fits (w .1))
+  all-fit : Each t summary account cs n (λ (w : Row × Row). Fits (w .1))
   all-fit = record {
     closed = closing-fits;
     opened = λ z. opening-fits (some-left z);
@@ -121,11 +121,6 @@ module _ {rs : List Row} {t summary account broker : Row} {cs : List Closing}
         fits-as kindTrade (tradeWrite t n .1) (r .t-kind)
         (means-trade (tradeWrite t n .1) .holds
         (trade-fits t trade-fit n (q .price-least) (q .price-most) (q .time-most) (q .commission-most) (q .tax-most)));
-    gained =
-        fits-as kindBroker (brokerWrite broker n .1) (r .b-kind)
-        (means-broker (brokerWrite broker n .1) .holds
-        (broker-left-fits broker n (means-broker broker .shows (rule-of kindBroker broker (r .b-held) (r .b-kind)))
-        (q .trades-most) (q .total-most)));
     freed = λ c m. new-put [];
     emptied = λ z. new-put [];
   }
@@ -133,4 +128,8 @@ module _ {rs : List Row} {t summary account broker : Row} {cs : List Closing}
   pub s1-after : S1 (after r n space)
   s1-after =
       after-each r n space Fits (means-sound rs .shows (r .good) .s1)
-      (each-write r n (λ (w : Row × Row). Fits (w .1)) all-fit)
+      (each-write r n (λ (w : Row × Row). Fits (w .1)) all-fit
+      (fits-as kindBroker (brokerWrite broker n .1) (r .b-kind)
+      (means-broker (brokerWrite broker n .1) .holds
+      (broker-left-fits broker n (means-broker broker .shows (rule-of kindBroker broker (r .b-held) (r .b-kind)))
+      (q .trades-most) (q .total-most)))))

@@ -53,7 +53,7 @@ module _ {rs : List Row} {t summary account broker : Row} {cs : List Closing}
   other : (j : ℕ) (x : Row) → x .kind ≡ j → (eqb j kindLot || eqb j kindSummary) ≡ false → Origin x
   other j x k e h = no (ap (λ (i : ℕ). eqb i kindLot || eqb i kindSummary) k ∙ e) h
 
-  come : Each t summary account broker cs n (λ (w : Row × Row). Origin (w .1))
+  come : Each t summary account cs n (λ (w : Row × Row). Origin (w .1))
   come = record {
     closed = λ c m. other kindLotHistory (closingOf t c) refl refl;
     opened = λ z. other kindLotHistory (openingOf t n) refl refl;
@@ -78,7 +78,6 @@ module _ {rs : List Row} {t summary account broker : Row} {cs : List Closing}
         );
     balanced = other kindAccount (holding account (n .balance)) (r .a-kind) refl;
     trade = other kindTrade (tradeWrite t n .1) (r .t-kind) refl;
-    gained = other kindBroker (brokerWrite broker n .1) (r .b-kind) refl;
     freed = λ c m. other kindFree nothing refl refl;
     emptied = λ z. other kindFree nothing refl refl;
   }
@@ -86,7 +85,8 @@ module _ {rs : List Row} {t summary account broker : Row} {cs : List Closing}
   origin : (x : Row) → List·Memᴰ x (after r n space) → Origin x
   origin =
       after-each r n space Origin (λ x m h. (inl m, λ k. old-right x m (eqb-true (x .kind) kindLot k)))
-      (each-write r n (λ (w : Row × Row). Origin (w .1)) come)
+      (each-write r n (λ (w : Row × Row). Origin (w .1)) come
+      (other kindBroker (brokerWrite broker n .1) (r .b-kind) refl))
 
   pub lot-origin : (l : Row) → List·Memᴰ l (after r n space) → l .kind ≡ kindLot → Held l × TradeRight l
   lot-origin l m k =

@@ -103,7 +103,7 @@ module _ {rs : List Row} {t summary account broker : Row} {cs : List Closing}
       subst (All (λ (k : Key). There k (after r n space))) (names-lot (c .lot) (h .1)) (was-named (c .lot) (h .0))
       (aTrade (c .lot .id)) (List·Memᴰ·head refl)
 
-  come-named : Each t summary account broker cs n (λ (w : Row × Row). Named (w .1))
+  come-named : Each t summary account cs n (λ (w : Row × Row). Named (w .1))
   unfolding named
   come-named = record {
     closed = λ c m. all-more P _ _ (of-lot c m) (all-one P _ own-trade);
@@ -127,9 +127,6 @@ module _ {rs : List Row} {t summary account broker : Row} {cs : List Closing}
     trade =
         let x = tradeWrite t n .1 in
         alike t x (r .t-held) (names-account x (r .t-kind) ∙ sym (names-account t (r .t-kind)));
-    gained =
-        let x = brokerWrite broker n .1 in
-        alike broker x (r .b-held) (names-none x (r .b-kind) ∙ sym (names-none broker (r .b-kind)));
     freed = λ c m. all-none P;
     emptied = λ z. all-none P;
   }
@@ -139,7 +136,10 @@ module _ {rs : List Row} {t summary account broker : Row} {cs : List Closing}
 
   pub names-left : S3 (after r n space)
   names-left =
-      after-each r n space Named was-named (each-write r n (λ (w : Row × Row). Named (w .1)) come-named)
+      after-each r n space Named was-named
+      (each-write r n (λ (w : Row × Row). Named (w .1)) come-named
+      (alike broker (brokerWrite broker n .1) (r .b-held)
+      (names-none (brokerWrite broker n .1) (r .b-kind) ∙ sym (names-none broker (r .b-kind)))))
 
   -- ---- S4
   pub bands-left : S4 (after r n space)

@@ -184,7 +184,7 @@ module _ {rs : List Row} {t summary account broker : Row} {cs : List Closing}
   other : (j : ℕ) → eqb j kindLotHistory ≡ false → (x : Row) → x .kind ≡ j → Done x
   other j e x q h = absurd (eqb-false j kindLotHistory e (sym q ∙ h))
 
-  come-done : Each t summary account broker cs n (λ (w : Row × Row). Done (w .1))
+  come-done : Each t summary account cs n (λ (w : Row × Row). Done (w .1))
   come-done =
       let mine = done-now r n s-own space in
       record {
@@ -201,7 +201,6 @@ module _ {rs : List Row} {t summary account broker : Row} {cs : List Closing}
         summed = λ z g. other kindSummary refl (summaryAfter t summary) (r .s-held z .1);
         balanced = other kindAccount refl (holding account (n .balance)) (r .a-kind);
         trade = other kindTrade refl (tradeWrite t n .1) (r .t-kind);
-        gained = other kindBroker refl (brokerWrite broker n .1) (r .b-kind);
         freed = λ c m. other kindFree refl nothing refl;
         emptied = λ z. other kindFree refl nothing refl;
       }
@@ -212,4 +211,5 @@ module _ {rs : List Row} {t summary account broker : Row} {cs : List Closing}
       (λ x m k.
       let was = book r n .s10 x m k in
       (done-stays r n s-own space (x .id) (was .0), done-stays r n s-own space (x .m2) (was .1)))
-      (each-write r n (λ (w : Row × Row). Done (w .1)) come-done)
+      (each-write r n (λ (w : Row × Row). Done (w .1)) come-done
+      (other kindBroker refl (brokerWrite broker n .1) (r .b-kind)))

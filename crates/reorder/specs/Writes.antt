@@ -1,31 +1,28 @@
 -- The rows that a result writes, but for the broker's: each is its account's own or a free place, and its trade keeps
 -- its account. Assumes nothing.
 use mathlib.Core.Path.{_≡_, refl, sym, ap, _∙_}
-use mathlib.Core.Bool.{Bool, true, false, cond, not, _&&_}
-use mathlib.Core.List.{List, [], _∷_, _++_}
+use mathlib.Core.Bool.{true, false, cond}
+use mathlib.Core.List.{List, _++_}
 use mathlib.Core.Logic.{_⊎_, inl, inr}
 use Prim.Native.Nat.{ℕ}
 use lib.Dec.{eqb}
 use lib.IntN.{ℤ, pos}
 use mir.Syntax.{w64}
 use mir.Val.{toZ}
-use borrow.Author.Tests.{not-true}
-use Rattle.laws.specs.All.{All, all-append, all-cond, all-keep, all-map, all-more, all-none, all-one}
-use Rattle.laws.specs.Search.{keep}
-use Rattle.laws.specs.Tests.{and-left}
+use Rattle.laws.specs.All.{All, all-append, all-map}
 use Rattle.record.specs.Codes.{kindAccount, kindBroker, kindCash, kindFree, kindLot, kindLotHistory, kindSettlement}
 use Rattle.record.specs.Codes.{kindSummary, kindTrade, kindTradeHistory}
 use Rattle.record.specs.Key.{among, keyOf, sameKey}
 use Rattle.record.specs.declared.row.Row.{Row}
-use Rattle.model.specs.Flags.{cash}
 use Rattle.model.specs.Lots.{Closing, closings}
 use Rattle.model.specs.Names.{aTrade}
 use Rattle.model.specs.Result.{Figures, View, leftOf, posting, signed}
 use Rattle.model.specs.Rows.{hasKey, is, nothing}
 use Rattle.result.specs.Apart.{all-closings}
-use Rattle.result.specs.Rows.{accountChanges, cashRow, closedLots, closingRows, finalRows, gone, holding, lotChanges}
-use Rattle.result.specs.Rows.{lotHistory, newLot, newSummary, openingRows, reduced, settlementRow, summaryChanges}
-use Rattle.result.specs.Rows.{summaryGone, summaryRows, summedShares, tradeAfter, tradeHistory}
+use Rattle.result.specs.Rows.{holding, lotHistory, summedShares, tradeAfter}
+use Rattle.result.specs.Posted.{sumsOf}
+use Rattle.kept.specs.ResultEach.{Each, cashOf, each-added, each-changed, each-freed, historyOf, lotOpened}
+use Rattle.kept.specs.ResultEach.{settlementOf, summaryOpened}
 use Rattle.kept.specs.Posted.{adds, frees, writes}
 use Rattle.reorder.specs.Whose.{byParty, byTrade, whose, whose-history, whose-party, whose-trade}
 
@@ -129,34 +126,6 @@ module _ (own : ℕ → ℕ) (input : Row) (v : View) (f : Figures) (s : Seen ow
   by-id h k e p q n m i =
       added own a h (its-trade own a h k e p q n (ap own i ∙ s .t-own)) (ap (λ (x : ℕ). eqb x kindTrade) e ∙ m)
 
-  all-added : All N (posting input v f .added)
-  unfolding posting
-  all-added =
-      let h1 = closingRows t cs in
-      let h2 = openingRows t (input .n1) (f .walked .need) (input .time) in
-      let h3 = summaryRows t (v .summary) in
-      let h4 = finalRows t (f .settlement) (input .time) in
-      let left = signed (t .form) (f .walked .need) in
-      let lot = newLot t (input .n1) left (input .time) in
-      let sum = newSummary t (summedShares t (v .summary)) in
-      all-append N (h1 ++ h2 ++ h3) h4
-      (all-append N (h1 ++ h2) h3
-      (all-append N h1 h2
-      (all-map (λ (c : Closing). lotHistory (c .lot .id) (t .id) (toZ w64 (c .lot .m1)) (leftOf (t .form) c)) N cs
-      (λ c m. histories (c .lot .id) (toZ w64 (c .lot .m1)) (leftOf (t .form) c)))
-      (all-cond N (eqb (f .walked .need) 0) [] _ (λ z. all-none N)
-      (λ z.
-      all-more N _ _ (histories (t .id) (pos 0) left)
-      (all-one N lot (added own a lot (its-party own a lot kindLot refl refl refl refl) refl)))))
-      (all-cond N (not (is kindFree (v .summary))) [] _ (λ z. all-none N)
-      (λ z. all-one N sum (added own a sum (its-party own a sum kindSummary refl refl refl refl) refl))))
-      (all-more N _ _ (by-id (tradeHistory t (input .time)) kindTradeHistory refl refl refl refl refl refl)
-      (all-more N _ _
-      (by-id (settlementRow t (f .settlement) (input .time)) kindSettlement refl refl refl refl refl refl)
-      (all-cond N (cash (t .flags)) _ []
-      (λ z. all-one N _ (by-id (cashRow t (f .settlement) (input .time)) kindCash refl refl refl refl refl refl))
-      (λ z. all-none N))))
-
   trade-turns : T (t, tradeAfter t (input .n1) (f .commission) (f .tax) (input .time))
   unfolding hasKey sameKey keyOf
   trade-turns = record {
@@ -165,56 +134,39 @@ module _ (own : ℕ → ℕ) (input : Row) (v : View) (f : Figures) (s : Seen ow
     party = λ i. rw (s .t-kind);
   }
 
-  all-changed : All T (posting input v f .changes)
-  unfolding posting
-  all-changed =
-      let w1 = lotChanges t cs in
-      let w2 = summaryChanges t (v .summary) in
-      let w3 = accountChanges t (v .account) (f .balance) in
-      let w4 : List (Row × Row) = (t, tradeAfter t (input .n1) (f .commission) (f .tax) (input .time)) ∷ [] in
-      all-append T (w1 ++ w2 ++ w3) w4
-      (all-append T (w1 ++ w2) w3
-      (all-append T w1 w2
-      (all-map (λ (c : Closing). (c .lot, holding (c .lot) (leftOf (t .form) c))) T (keep reduced cs)
-      (λ c m.
-      let l = all-keep (λ (c : Closing). (c .lot .kind ≡ kindLot) × (c .lot .party ≡ a)) reduced cs lots-its c m in
-      held own a (c .lot) kindLot (leftOf (t .form) c) (l .0) refl refl refl (l .1)))
-      (all-cond T (not (is kindFree (v .summary)) && not (gone (summedShares t (v .summary)))) _ []
-      (λ z.
-      let live = not-true (is kindFree (v .summary)) (and-left _ (not (gone (summedShares t (v .summary)))) z) in
-      let k = s .s-own live in
-      all-one T _ (held own a (v .summary) kindSummary (summedShares t (v .summary)) (k .0) refl refl refl (k .1)))
-      (λ z. all-none T)))
-      (all-cond T (cash (t .flags)) _ []
-      (λ z. all-one T _ (held own a (v .account) kindAccount (f .balance) (s .a-kind) refl refl refl (s .a-party)))
-      (λ z. all-none T)))
-      (all-one T _ trade-turns)
-
   gone-turns : (o : Row) (k : ℕ) → o .kind ≡ k → among k byParty ≡ true → eqb k kindBroker ≡ false
       → eqb k kindTrade ≡ false → o .party ≡ a → T (o, nothing)
   gone-turns o k e h n m p =
       freed own a o (its-party own a o k e h n p) (ap (λ (x : ℕ). eqb x kindTrade) e ∙ m)
 
-  all-freed : All (λ (o : Row). T (o, nothing)) (posting input v f .freed)
-  unfolding posting
-  all-freed =
-      let whole : Closing → Bool = λ c. not (reduced c) in
-      all-append (λ (o : Row). T (o, nothing)) (closedLots cs) (summaryGone t (v .summary))
-      (all-map (λ (c : Closing). c .lot) (λ (o : Row). T (o, nothing)) (keep whole cs)
-      (λ c m.
-      let l = all-keep (λ (c : Closing). (c .lot .kind ≡ kindLot) × (c .lot .party ≡ a)) whole cs lots-its c m in
-      gone-turns (c .lot) kindLot (l .0) refl refl refl (l .1)))
-      (all-cond (λ (o : Row). T (o, nothing))
-      (not (is kindFree (v .summary)) && gone (summedShares t (v .summary))) _ []
-      (λ z.
-      let k = s .s-own (not-true (is kindFree (v .summary)) (and-left _ (gone (summedShares t (v .summary))) z)) in
-      all-one (λ (o : Row). T (o, nothing)) _ (gone-turns (v .summary) kindSummary (k .0) refl refl refl (k .1)))
-      (λ z. all-none (λ (o : Row). T (o, nothing))))
+  turns : Each t (v .summary) (v .account) cs (sumsOf input f) T
+  turns = record {
+    closed = λ c m. histories (c .lot .id) (toZ w64 (c .lot .m1)) (leftOf (t .form) c);
+    opened = λ z. histories (t .id) (pos 0) (signed (t .form) (f .walked .need));
+    lot = λ z.
+        let l = lotOpened t (sumsOf input f) in
+        added own a l (its-party own a l kindLot refl refl refl refl) refl;
+    begun = λ z.
+        let x = summaryOpened t (v .summary) in
+        added own a x (its-party own a x kindSummary refl refl refl refl) refl;
+    history = by-id (historyOf t (sumsOf input f)) kindTradeHistory refl refl refl refl refl refl;
+    settled = by-id (settlementOf t (sumsOf input f)) kindSettlement refl refl refl refl refl refl;
+    paid = λ z. by-id (cashOf t (sumsOf input f)) kindCash refl refl refl refl refl refl;
+    less = λ c m z.
+        let l = lots-its c m in held own a (c .lot) kindLot (leftOf (t .form) c) (l .0) refl refl refl (l .1);
+    summed = λ z g.
+        let k = s .s-own z in
+        held own a (v .summary) kindSummary (summedShares t (v .summary)) (k .0) refl refl refl (k .1);
+    balanced = held own a (v .account) kindAccount (f .balance) (s .a-kind) refl refl refl (s .a-party);
+    trade = trade-turns;
+    freed = λ c m. let l = lots-its c m in gone-turns (c .lot) kindLot (l .0) refl refl refl (l .1);
+    emptied = λ z. let k = s .s-own z in gone-turns (v .summary) kindSummary (k .0) refl refl refl (k .1);
+  }
 
   pub all-turns : All T (writes (posting input v f))
+  unfolding posting
   all-turns =
       let p = posting input v f in
       all-append T (adds (p .added)) (p .changes ++ frees (p .freed))
-      (all-map (λ (h : Row). (nothing, h)) T (p .added) all-added)
-      (all-append T (p .changes) (frees (p .freed)) all-changed
-      (all-map (λ (o : Row). (o, nothing)) T (p .freed) all-freed))
+      (all-map (λ (h : Row). (nothing, h)) T (p .added) (each-added turns))
+      (all-append T (p .changes) (frees (p .freed)) (each-changed turns) (each-freed turns))
