@@ -184,7 +184,9 @@ module _ {rs : List Row} {input : Row} {broker number price charge commission : 
   unfolding named
   names-left =
       grown-each rs (added o) (o .space) Named
-      (λ x m k h. stays k (ne-eqb kindFree (k .kind) (not-among lotKinds (k .kind) kindFree (named-aside x k h) refl)) (book o .s3 x m k h))
+      (λ x m k h.
+      let free = ne-eqb kindFree (k .kind) (not-among lotKinds (k .kind) kindFree (named-aside x k h) refl) in
+      stays k free (book o .s3 x m k h))
       (each-added o Named
       (all-more Stays _ _ (stays (anAccount (input .party)) refl (o .account))
       (all-one Stays _ (stays (aSecurity (input .symbol)) refl (o .security))))

@@ -174,7 +174,8 @@ module _ {rs : List Row} {t summary account broker : Row} {cs : List Closing}
           opened = λ z. quiet (nothing, openingOf t n) off-free (aside kindLotHistory refl (openingOf t n) refl);
           lot = λ z. quiet (nothing, lotOpened t n) off-free (aside kindLot refl (lotOpened t n) refl);
           begun = λ z.
-              quiet (nothing, summaryOpened t summary) off-free (aside kindSummary refl (summaryOpened t summary) refl);
+              quiet (nothing, summaryOpened t summary) off-free (aside kindSummary refl (summaryOpened t summary)
+              refl);
           history = fresh kindTradeHistory (historyOf t n) refl f1;
           settled = fresh kindSettlement (settlementOf t n) refl f2;
           paid = λ z. fresh kindCash (cashOf t n) refl (λ e. f3 e z);

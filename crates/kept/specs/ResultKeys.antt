@@ -24,12 +24,13 @@ use Rattle.model.specs.Rows.{found, hasKey, is, nothing, sameRow}
 use Rattle.model.specs.SoundMeans.{S2}
 use Rattle.shelf.specs.Put.{row-itself, same-rows}
 use Rattle.tables.specs.Found.{own-number}
-use Rattle.result.specs.Apart.{key-kind, own-key}
+use Rattle.result.specs.Apart.{own-key}
 use Rattle.result.specs.Own
 use Rattle.result.specs.Own.{Read, Sums, added, all-own}
 use Rattle.result.specs.Posted.{of-kind}
 use Rattle.result.specs.Rows.{closingRows, finalRows, openingRows, summaryRows}
-use Rattle.kept.specs.Cases.{by-cases, one-bit}
+use Rattle.kept.specs.Cases.{by-cases, not-so, one-bit}
+use Rattle.feed.specs.Steps.{key-of}
 use Rattle.kept.specs.Posted.{adds}
 use Rattle.kept.specs.ResultBase.{all, all-inside}
 use Rattle.kept.specs.ResultEach.{cashOf, closingOf, historyOf, lotOpened, openingOf, settlementOf}
@@ -106,49 +107,37 @@ module _ {rs : List Row} {t summary account broker : Row} {cs : List Closing}
         ≤ bit (eqb (k .kind) kindLotHistory)
     histories-kind = go (eqb (k .kind) kindLotHistory) refl
       where
-        off : (h : Row) → h .kind ≡ kindLotHistory → eqb (k .kind) kindLotHistory ≡ false → (b : Bool)
-            → hasKey k h ≡ b → b ≡ false
-        off h q e true p = absurd (eqb-false (k .kind) kindLotHistory e (sym (key-kind k h p) ∙ q))
-        off h q e false p = refl
+        off : (h : Row) → h .kind ≡ kindLotHistory → eqb (k .kind) kindLotHistory ≡ false → hasKey k h ≡ false
+        off h q e = key-of k h (λ z. eqb-false (k .kind) kindLotHistory e (sym z ∙ q))
 
         go : (b : Bool) → eqb (k .kind) kindLotHistory ≡ b
             → count (hasKey k) (closingRows t cs) + bit (hasKey k (openingOf t n)) ≤ bit b
         go true e = histories-once
         go false e =
             let a = count-map (hasKey k) (closingOf t) cs in
-            let b =
-            count-no (λ (c : Closing). hasKey k (closingOf t c)) cs
-            (λ c m. off (closingOf t c) refl e (hasKey k (closingOf t c)) refl)
-            in
-            let c = ap bit (off (openingOf t n) refl e (hasKey k (openingOf t n)) refl) in
+            let b = count-no (λ (c : Closing). hasKey k (closingOf t c)) cs (λ c m. off (closingOf t c) refl e) in
+            let c = ap bit (off (openingOf t n) refl e) in
             omega arith
 
     histories-new : count (hasKey k) rs + count (hasKey k) (closingRows t cs) ≤ 1
-    histories-new = go (leb 1 (count (hasKey k) rs)) refl
-      where
-        off : (c : Closing) → 1 ≤ count (hasKey k) rs → (b : Bool) → hasKey k (closingOf t c) ≡ b
-            → hasKey k (closingOf t c) ≡ false
-        off c h true e =
-            let q = beside (closingOf t c) (no-lot-history r n (closingOf t c) refl refl) in
-            let z = ap bit e in
-            absurd (omega arith)
-        off c h false e = e
-
-        go : (b : Bool) → leb 1 (count (hasKey k) rs) ≡ b
-            → count (hasKey k) rs + count (hasKey k) (closingRows t cs) ≤ 1
-        go true e =
-            let h = leb-true 1 (count (hasKey k) rs) e in
-            let a = count-map (hasKey k) (closingOf t) cs in
-            let b =
-            count-no (λ (c : Closing). hasKey k (closingOf t c)) cs
-            (λ c m. off c h (hasKey k (closingOf t c)) refl)
-            in
-            let w = was in
-            omega arith
-        go false e =
-            let h = leb-false 1 (count (hasKey k) rs) e in
-            let one = histories-once in
-            omega arith
+    histories-new =
+        by-cases (leb 1 (count (hasKey k) rs))
+        (λ e.
+        let h = leb-true 1 (count (hasKey k) rs) e in
+        let a = count-map (hasKey k) (closingOf t) cs in
+        let b =
+        count-no (λ (c : Closing). hasKey k (closingOf t c)) cs
+        (λ c m. not-so (hasKey k (closingOf t c)) (λ q.
+        let one = beside (closingOf t c) (no-lot-history r n (closingOf t c) refl refl) in
+        let z = ap bit q in
+        omega arith))
+        in
+        let w = was in
+        omega arith)
+        (λ e.
+        let h = leb-false 1 (count (hasKey k) rs) e in
+        let one = histories-once in
+        omega arith)
 
     opening-few : count (hasKey k) (openingRows t (n .price) (n .left) (n .time))
         ≤ bit (hasKey k (openingOf t n)) + bit (hasKey k (lotOpened t n))

@@ -48,8 +48,9 @@ module _ (a y : ℕ) (l : List Row) where
   -- no lots, no shares
   pub no-lots : count (lotOf a y) l ≡ 0 → sumZ (sharesOf a y) l ≡ pos 0
   no-lots e =
-      let u = total-zero (λ x. part true (sharesOf a y x)) l (λ x m. no-shares true a y x (none-passes (lotOf a y) l e x m)) in
-      let w = total-zero (λ x. part false (sharesOf a y x)) l (λ x m. no-shares false a y x (none-passes (lotOf a y) l e x m)) in
+      let none = none-passes (lotOf a y) l e in
+      let u = total-zero (λ x. part true (sharesOf a y x)) l (λ x m. no-shares true a y x (none x m)) in
+      let w = total-zero (λ x. part false (sharesOf a y x)) l (λ x m. no-shares false a y x (none x m)) in
       let s = sum-sides true (sharesOf a y) l in
       eq-sides true (sumZ (sharesOf a y) l) (pos 0) (omega arith)
 

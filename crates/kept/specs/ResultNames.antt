@@ -145,23 +145,15 @@ module _ {rs : List Row} {t summary account broker : Row} {cs : List Closing}
   pub bands-left : S4 (after r n space)
   bands-left x m e =
       quiet-count r n space (overlaps x)
-      (still r n space kindBand (refl, refl) (overlaps x)
-      (λ y d. rw (ne-eqb (y .kind) kindBand d)))
-      ∙ book r n .s4 x
-      (still-was r n space kindBand (refl, refl) x m e)
-      e
+      (still r n space kindBand (refl, refl) (overlaps x) (λ y d. rw (ne-eqb (y .kind) kindBand d)))
+      ∙ book r n .s4 x (still-was r n space kindBand (refl, refl) x m e) e
 
   -- ---- S5
   pub rates-left : S5 (after r n space)
   rates-left x m e =
-      let was =
-      book r n .s5 x
-      (still-was r n space kindCustomer (refl, refl) x m e) e
-      in
+      let was = book r n .s5 x (still-was r n space kindCustomer (refl, refl) x m e) e in
       let same =
-      rates-alike (after r n space) rs
-      (λ i. still-found r n space (aTaxRate i) (refl, refl))
-      (still-sum r n space kindCustomerRate (refl, refl))
-      (x .party)
+      rates-alike (after r n space) rs (λ i. still-found r n space (aTaxRate i) (refl, refl))
+      (still-sum r n space kindCustomerRate (refl, refl)) (x .party)
       in
       omega arith

@@ -128,10 +128,7 @@ module _ {rs : List Row} {t summary account broker : Row} {cs : List Closing}
         flag-bit (cash (t .flags)) ∙ ap (λ (y : Row). bit (cash (y .flags))) (sym (trade-done r n s-own space)),
         cash-rows,
       ))
-      (no refl)
-      (no refl)
-      (no refl)
-      (no refl))
+      (no refl) (no refl) (no refl) (no refl))
 
   abbrev Paid : Row → Type 0
   Paid x =
@@ -146,16 +143,13 @@ module _ {rs : List Row} {t summary account broker : Row} {cs : List Closing}
       let ne = not-own kindCash refl (no-cash r n) x m k in
       let same = quiet-found r n space (aSettlement (x .id)) (settlements-quiet (x .id) ne) in
       (ap (λ (y : Row). y .flags) same ∙ was .0, ap (λ (y : Row). y .m1) same ∙ was .1))
-      (by-kind r n (λ (w : Row × Row). Paid (w .1)) kindCash (is kindCash)
-      (kind-of kindCash) refl
+      (by-kind r n (λ (w : Row × Row). Paid (w .1)) kindCash (is kindCash) (kind-of kindCash) refl
       (λ w a b k. absurd (eqb-false (w .1 .kind) kindCash b k)) (no refl) (no refl)
       (λ e z k. (
         ap (λ (y : Row). y .flags) settlement-found ∙ ap (λ (b : Bool). cond b 1 0) z,
         ap (λ (y : Row). y .m1) settlement-found,
       ))
-      (no refl)
-      (no refl)
-      (no refl))
+      (no refl) (no refl) (no refl))
 
   pub settlements-left : S9 now
   settlements-left x m = ((trades-settled x m, settlements-right x m), cash-right x m)

@@ -2,8 +2,7 @@
 -- completed. Assumes nothing.
 use mathlib.Core.Path.{_≡_, refl, sym, ap, subst, _∙_}
 use mathlib.Core.Bool.{Bool, true, false}
-use mathlib.Core.List.{List, [], _∷_, _++_, List·Memᴰ, List·Memᴰ·head, List·Memᴰ·tail, Memᴰ·append-left}
-use mathlib.Core.List.{Memᴰ·append-right}
+use mathlib.Core.List.{List, _++_, List·Memᴰ, List·Memᴰ·head, List·Memᴰ·tail, Memᴰ·append-left, Memᴰ·append-right}
 use Prim.Native.Nat.{ℕ, _≤_}
 use native.Mathlib.Omega.{arith}
 use lib.Dec.{eqb}
@@ -22,10 +21,9 @@ use Rattle.model.specs.Rows.{found, hasKey, is, nothing, sameRow}
 use Rattle.model.specs.SoundMeans.{Each, S2}
 use Rattle.tables.specs.Found.{own-number}
 use Rattle.tables.specs.Names.{by-id, idKinds}
-use Rattle.result.specs.Own.{Read, Sums, added, brokerWrite, tradeWrite}
-use Rattle.result.specs.Place.{frees}
-use Rattle.result.specs.Rows.{accountChanges, closedLots, closingRows, finalRows, lotChanges, openingRows}
-use Rattle.result.specs.Rows.{summaryChanges, summaryGone, summaryRows}
+use Rattle.result.specs.Own.{Read, Sums, added, tradeWrite}
+use Rattle.result.specs.Rows.{accountChanges, closingRows, finalRows, lotChanges, openingRows, summaryChanges}
+use Rattle.result.specs.Rows.{summaryRows}
 use Rattle.feed.specs.Steps.{key-of, kind-of}
 use Rattle.kept.specs.Cases.{by-cases, no, not-among, not-so}
 use Rattle.kept.specs.ResultAfter.{added-comes, after, after-each, quiet-found, turned-comes}
@@ -77,10 +75,8 @@ module _ {rs : List Row} {t summary account broker : Row} {cs : List Closing}
       let w1 = lotChanges t cs in
       let w2 = summaryChanges t summary in
       let w3 = accountChanges t account (n .balance) in
-      let w5 = brokerWrite broker n ∷ [] in
-      let w6 = frees (closedLots cs ++ summaryGone t summary) in
       turned-comes r n space (tradeWrite t n)
-      (Memᴰ·append-left w6 (Memᴰ·append-left w5 (Memᴰ·append-right (w1 ++ w2 ++ w3) (List·Memᴰ·head refl))))
+      (Memᴰ·append-left _ (Memᴰ·append-left _ (Memᴰ·append-right (w1 ++ w2 ++ w3) (List·Memᴰ·head refl))))
 
   -- ---- what a number finds
   pub trade-done : found (aTrade (t .id)) left ≡ done
@@ -89,15 +85,13 @@ module _ {rs : List Row} {t summary account broker : Row} {cs : List Closing}
       (own-number kindTrade refl (t .id) done (eq-eqb (t .kind) kindTrade (r .t-kind)) refl)
 
   -- rows of another number, of a kind that is written with the trade's number
-  pub others : (k : ℕ) → among k idKinds ≡ true → among k lotKinds ≡ false → eqb kindTradeHistory k ≡ false → eqb kindAccount k ≡ false
-      → eqb kindBroker k ≡ false → (i : ℕ) → (t .id ≡ i → ⊥) → All (Quiet (hasKey (byId k i))) (all r n)
+  pub others : (k : ℕ) → among k idKinds ≡ true → among k lotKinds ≡ false → eqb kindTradeHistory k ≡ false
+      → eqb kindAccount k ≡ false → eqb kindBroker k ≡ false → (i : ℕ) → (t .id ≡ i → ⊥) → All (Quiet (hasKey (byId k i))) (all r n)
   others k known a h c b i ne =
       by-kind r n (Quiet p) k p (key-of (byId k i)) a (λ w x y. (x, y)) (no h)
       (λ e. (free, other-number k known i (settlementOf t n) ne))
-      (λ e z. (free, other-number k known i (cashOf t n) ne))
-      (no c)
-      (λ e. (other-number k known i t ne, other-number k known i done ne))
-      (no b)
+      (λ e z. (free, other-number k known i (cashOf t n) ne)) (no c)
+      (λ e. (other-number k known i t ne, other-number k known i done ne)) (no b)
     where
       p : Row → Bool
       p = hasKey (byId k i)
