@@ -29,6 +29,7 @@ use Rattle.rules.specs.Rules.{security, securityLimits, settlement, settlementL
 use Rattle.rules.specs.Rules.{taxRateLimits, trade, tradeHistory, tradeHistoryLimits, tradeLimits}
 use Rattle.model.specs.Rows.{bytes, recordSize, rows, sameRow}
 use Rattle.model.specs.Sound.{s1}
+use Rattle.kept.specs.Cases.{by-cases}
 
 -- ---- a row that fits has each field of its width
 abbrev byte : Range
@@ -154,12 +155,7 @@ rows-bytes rs e =
 pub put-length : (o n : Row) (l : List Row) → length (put sameRow o n l) ≡ length l
 unfolding put
 put-length o n [] = refl
-put-length o n (x ∷ l) = go (put-length o n l) (sameRow o x) refl
-  where
-    go : length (put sameRow o n l) ≡ length l → (t : Bool) → sameRow o x ≡ t
-        → length (put sameRow o n (x ∷ l)) ≡ length (x ∷ l)
-    go ih true e = rw e
-    go ih false e = rw (e, ih)
+put-length o n (x ∷ l) = by-cases (sameRow o x) (λ e. rw e) (λ e. rw (e, put-length o n l))
 
 pub puts-length : (ws : List (Row × Row)) (l : List Row) → length (puts sameRow ws l) ≡ length l
 unfolding puts

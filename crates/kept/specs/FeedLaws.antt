@@ -9,6 +9,7 @@ use lib.IntN.{ℤ, _+ℤ_}
 use Rattle.laws.specs.All.{All, all-more, all-none}
 use Rattle.laws.specs.Change.{put}
 use Rattle.laws.specs.Search.{bit, count, sumZ, the, total}
+use Rattle.kept.specs.Cases.{by-cases}
 
 module _ {A X : Type 0} (f : A → X) where
   pub map-map-same : (g : A → A) → ((x : A) → f (g x) ≡ f x) → (l : List A) → map f (map g l) ≡ map f l
@@ -19,24 +20,16 @@ module _ {A X : Type 0} (f : A → X) where
       → ((x : A) → p x ≡ true → f (g x) ≡ f x) → (l : List A) → f (the p d (map g l)) ≡ f (the p d l)
   unfolding the
   the-map p d g same h [] = refl
-  the-map p d g same h (x ∷ l) = go (the-map p d g same h l) (p x) refl
-    where
-      go : f (the p d (map g l)) ≡ f (the p d l) → (t : Bool) → p x ≡ t
-          → f (the p d (map g (x ∷ l))) ≡ f (the p d (x ∷ l))
-      go ih true e = rw (same x, e) (h x e)
-      go ih false e = rw (same x, e) ih
+  the-map p d g same h (x ∷ l) =
+      by-cases (p x) (λ e. rw (same x, e) (h x e)) (λ e. rw (same x, e) (the-map p d g same h l))
 
 -- ---- one in the place of another
 module _ {A : Type 0} (same : A → A → Bool) (tells : (a b : A) → same a b ≡ true → a ≡ b) (o n : A) where
   pub map-put : {X : Type 0} (f : A → X) → f n ≡ f o → (l : List A) → map f (put same o n l) ≡ map f l
   unfolding put
   map-put f h [] = refl
-  map-put f h (x ∷ l) = go (map-put f h l) (same o x) refl
-    where
-      go : map f (put same o n l) ≡ map f l → (t : Bool) → same o x ≡ t
-          → map f (put same o n (x ∷ l)) ≡ map f (x ∷ l)
-      go ih true e = let q : f n ≡ f x = h ∙ ap f (tells o x e) in rw (e, q)
-      go ih false e = rw (e, ih)
+  map-put f h (x ∷ l) =
+      by-cases (same o x) (λ e. let q : f n ≡ f x = h ∙ ap f (tells o x e) in rw (e, q)) (λ e. rw (e, map-put f h l))
 
   pub the-put : {X : Type 0} (f : A → X) (p : A → Bool) (d : A) → p n ≡ p o → (p o ≡ true → f n ≡ f o) → (l : List A)
       → f (the p d (put same o n l)) ≡ f (the p d l)
@@ -69,12 +62,9 @@ module _ {A : Type 0} (same : A → A → Bool) (tells : (a b : A) → same a b 
   pub put-has : (l : List A) → 1 ≤ count (same o) l → List·Memᴰ n (put same o n l)
   unfolding put count total
   put-has [] h = absurd (omega arith)
-  put-has (x ∷ l) h = go (put-has l) (same o x) refl
-    where
-      go : (1 ≤ count (same o) l → List·Memᴰ n (put same o n l)) → (t : Bool) → same o x ≡ t
-          → List·Memᴰ n (put same o n (x ∷ l))
-      go ih true e = rw e (List·Memᴰ·head refl)
-      go ih false e = let z = ap bit e in rw e (List·Memᴰ·tail (ih (omega arith)))
+  put-has (x ∷ l) h =
+      by-cases (same o x) (λ e. rw e (List·Memᴰ·head refl))
+      (λ e. let z = ap bit e in rw e (List·Memᴰ·tail (put-has l (omega arith))))
 
 -- ---- sums of what is made of each
 pub sum-map : {A : Type 0} (f : A → ℤ) (l : List A) → sumZ (λ (x : ℤ). x) (map f l) ≡ sumZ f l

@@ -5,7 +5,7 @@ use mathlib.Core.Bool.{Bool, true, false, false≢true}
 use mathlib.Core.List.{List, [], _∷_, List·Memᴰ, List·Memᴰ·head, List·Memᴰ·tail}
 use Prim.Native.Nat.{ℕ, _+_, _≤_}
 use native.Mathlib.Omega.{arith}
-use lib.IntN.{ℤ, pos, _+ℤ_}
+use lib.IntN.{ℤ, pos}
 use lib.ListN.{length}
 use Rattle.laws.specs.All.{All, all-map}
 use Rattle.laws.specs.Change.{put, puts}
@@ -14,6 +14,7 @@ use Rattle.laws.specs.Search.{count, sumZ, the, total}
 use Rattle.record.specs.declared.row.Row.{Row}
 use Rattle.model.specs.Rows.{nothing, sameRow}
 use Rattle.shelf.specs.Put.{row-itself, same-rows}
+use Rattle.kept.specs.FeedLaws.{map-put, sum-map}
 use Rattle.kept.specs.Cases.{by-cases}
 use Rattle.kept.specs.Posted.{adds}
 use Rattle.laws.specs.Puts.{Inside, Quiet, count-length, count-no, each-row, has-come, mem-map, news, olds, puts-count}
@@ -27,16 +28,10 @@ grown rs hs = puts sameRow (adds hs) rs
 -- ---- sums of signed numbers, where neither the row that goes nor the one that comes has any
 module _ (f : Row → ℤ) where
   put-sum : (o n : Row) (l : List Row) → f o ≡ pos 0 → f n ≡ pos 0 → sumZ f (put sameRow o n l) ≡ sumZ f l
-  unfolding put sumZ
-  put-sum o n [] a b = refl
-  put-sum o n (x ∷ l) a b = go (put-sum o n l a b) (sameRow o x) refl
-    where
-      go : sumZ f (put sameRow o n l) ≡ sumZ f l → (t : Bool) → sameRow o x ≡ t
-          → sumZ f (put sameRow o n (x ∷ l)) ≡ sumZ f (x ∷ l)
-      go ih true e =
-          let q : f n ≡ f x = b ∙ sym a ∙ ap f (same-rows o x e) in
-          rw e (ap (λ (z : ℤ). z +ℤ sumZ f l) q)
-      go ih false e = rw e (ap (λ (z : ℤ). f x +ℤ z) ih)
+  put-sum o n l a b =
+      sym (sum-map f (put sameRow o n l))
+      ∙ ap (sumZ (λ (z : ℤ). z)) (map-put sameRow same-rows o n f (b ∙ sym a) l)
+      ∙ sum-map f l
 
   pub grown-sum : (hs rs : List Row) → f nothing ≡ pos 0 → All (λ (h : Row). f h ≡ pos 0) hs
       → sumZ f (grown rs hs) ≡ sumZ f rs

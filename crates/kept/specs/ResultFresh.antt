@@ -1,6 +1,6 @@
 -- No row of a sound book has the key of one that a result adds, and no two of those have one key. Assumes nothing.
 use mathlib.Core.Path.{_≡_, refl, sym, ap, _∙_}
-use mathlib.Core.Bool.{Bool, true, false}
+use mathlib.Core.Bool.{true}
 use mathlib.Core.List.{List, List·Memᴰ}
 use mathlib.Core.Logic.{⊎-elim}
 use Prim.Native.Nat.{ℕ, _≤_}
@@ -25,7 +25,7 @@ use Rattle.shelf.specs.Put.{found-none}
 use Rattle.tables.specs.Names.{by-id, by-status, ofId}
 use Rattle.result.specs.Apart.{found-kind, key-kind}
 use Rattle.result.specs.Own.{Read, Sums}
-use Rattle.kept.specs.Cases.{not-so}
+use Rattle.kept.specs.Cases.{by-cases, not-so}
 use Rattle.kept.specs.ResultEach.{lotOpened}
 use Rattle.laws.specs.Puts.{count-less, count-no, the-one}
 
@@ -33,18 +33,16 @@ use Rattle.laws.specs.Puts.{count-less, count-no, the-one}
 module _ (rs : List Row) (s2 : S2 rs) where
   pub one-key : (k : Key) → (k .kind ≡ kindFree → ⊥) → count (hasKey k) rs ≤ 1
   unfolding hasKey
-  one-key k live = go (leb 1 (count (hasKey k) rs)) refl
-    where
-      o : Row
-      o = the (hasKey k) nothing rs
-
-      go : (b : Bool) → leb 1 (count (hasKey k) rs) ≡ b → count (hasKey k) rs ≤ 1
-      go true e =
-          let own : keyOf o ≡ k = same-keys (keyOf o) k (the-passes (hasKey k) nothing rs e) in
-          ⊎-elim (λ f. absurd (live (sym (key-kind k o (the-passes (hasKey k) nothing rs e)) ∙ f)))
-          (λ c. let z : count (hasKey k) rs ≡ 1 = rw own at c in omega arith)
-          (s2 o (the-has (hasKey k) nothing rs e))
-      go false e = let h = leb-false 1 (count (hasKey k) rs) e in omega arith
+  one-key k live =
+      by-cases (leb 1 (count (hasKey k) rs))
+      (λ e.
+      let o = the (hasKey k) nothing rs in
+      let has = the-passes (hasKey k) nothing rs e in
+      let own : keyOf o ≡ k = same-keys (keyOf o) k has in
+      ⊎-elim (λ f. absurd (live (sym (key-kind k o has) ∙ f)))
+      (λ c. let z : count (hasKey k) rs ≡ 1 = rw own at c in omega arith)
+      (s2 o (the-has (hasKey k) nothing rs e)))
+      (λ e. let h = leb-false 1 (count (hasKey k) rs) e in omega arith)
 
   -- a key finds the row that has it
   pub found-one : (k : Key) (x : Row) → (k .kind ≡ kindFree → ⊥) → List·Memᴰ x rs → hasKey k x ≡ true
@@ -131,14 +129,11 @@ module _ {rs : List Row} {t summary account broker : Row} {cs : List Closing}
   module _ (s-own : summary ≡ found (aSummary (t .party) (t .symbol)) rs) where
     pub no-summary : is kindFree summary ≡ true → count (hasKey (aSummary (t .party) (t .symbol))) rs ≡ 0
     unfolding there
-    no-summary free = go (leb 1 (count (hasKey s) rs)) refl
-      where
-        s : Key
-        s = aSummary (t .party) (t .symbol)
-
-        go : (b : Bool) → leb 1 (count (hasKey s) rs) ≡ b → count (hasKey s) rs ≡ 0
-        go true e =
-            let k : summary .kind ≡ kindSummary = ap (λ (o : Row). o .kind) s-own ∙ found-kind rs s e in
-            let z : _≡_ {A = ℕ} kindFree kindSummary = sym (eqb-true (summary .kind) kindFree free) ∙ k in
-            absurd (omega arith)
-        go false e = let h = leb-false 1 (count (hasKey s) rs) e in omega arith
+    no-summary free =
+        let s = aSummary (t .party) (t .symbol) in
+        by-cases (leb 1 (count (hasKey s) rs))
+        (λ e.
+        let k : summary .kind ≡ kindSummary = ap (λ (o : Row). o .kind) s-own ∙ found-kind rs s e in
+        let z : _≡_ {A = ℕ} kindFree kindSummary = sym (eqb-true (summary .kind) kindFree free) ∙ k in
+        absurd (omega arith))
+        (λ e. let h = leb-false 1 (count (hasKey s) rs) e in omega arith)

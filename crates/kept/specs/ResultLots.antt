@@ -31,7 +31,7 @@ use Rattle.result.specs.Rows.{summedShares}
 use Rattle.result.specs.Signed.{sum-fits}
 use Rattle.kept.specs.ResultLotsSides.{signed-size}
 use Rattle.kept.specs.ResultLotsSigns.{count-untouched, lot-kind, lot-party, lot-symbol, not-mine, not-yours}
-use Rattle.kept.specs.ResultLotsSigns.{one-after, signs-right, sum-untouched}
+use Rattle.kept.specs.ResultLotsSigns.{one-after, signs-right, sum-untouched, third}
 use Rattle.kept.specs.ResultLotsSum.{Walked, sum-after}
 use Rattle.kept.specs.ResultLotsSummary.{has-holder, key-party, key-symbol, no-lots, no-sum, not-not}
 use Rattle.kept.specs.ResultLotsSummary.{nothing-there, summary-own, zero-add}
@@ -158,27 +158,20 @@ module _ {rs : List Row} {t summary account broker : Row} {cs : List Closing}
     -- that of another account or symbol stays
     there-apart : (a y : ℕ) → (eqb (t .party) a && eqb (t .symbol) y) ≡ false → There (aSummary a y) rs
         → There (aSummary a y) now
-    there-apart a y apart h = go (is kindFree summary) refl
-      where
-        go : (b : Bool) → is kindFree summary ≡ b → There (aSummary a y) now
-        go true e =
-            let law = there-law a y in
-            let z : cond (is kindFree summary) 0 (bit (hasKey (aSummary a y) summary)) ≡ 0 = rw e in
-            omega arith
-        go false e =
-            let k = summary-own r n space v e in
-            let q : hasKey (aSummary a y) summary ≡ false =
-            by-holder a y summary
-            ∙ rw (key-party (t .party) (t .symbol) summary k, key-symbol (t .party) (t .symbol) summary k)
-            (third (is kindSummary summary) (eqb (t .party) a) (eqb (t .symbol) y) apart)
-            in
-            let law = there-law a y in
-            let z : cond (is kindFree summary) 0 (bit (hasKey (aSummary a y) summary)) ≡ 0 = rw (e, q) in
-            omega arith
-          where
-            third : (k p s : Bool) → (p && s) ≡ false → (k && p && s) ≡ false
-            third true p s f = f
-            third false p s f = refl
+    there-apart a y apart h =
+        let law = there-law a y in
+        let off : cond (is kindFree summary) 0 (bit (hasKey (aSummary a y) summary)) ≡ 0 =
+        by-cases (is kindFree summary) (λ e. rw e)
+        (λ e.
+        let k = summary-own r n space v e in
+        let q : hasKey (aSummary a y) summary ≡ false =
+        by-holder a y summary
+        ∙ rw (key-party (t .party) (t .symbol) summary k, key-symbol (t .party) (t .symbol) summary k)
+        (third (is kindSummary summary) (eqb (t .party) a) (eqb (t .symbol) y) apart)
+        in
+        rw (e, q))
+        in
+        omega arith
 
     -- ---- the summary that comes, where the shares do not come to zero
     abbrev writes : Bool → Row

@@ -48,14 +48,14 @@ module _ (account symbol : ℕ) (x : Row) (e : lotOf account symbol x ≡ true) 
       eqb-true (x .symbol) symbol (and-right (is kindLot x && eqb (x .party) account) (eqb (x .symbol) symbol) e)
 
 -- it is of no other
+pub third : (k p s : Bool) → (p && s) ≡ false → (k && p && s) ≡ false
+third true p s q = q
+third false p s q = refl
+
 not-both : (account symbol a y : ℕ) (x : Row) → (eqb a account && eqb y symbol) ≡ false → lotOf a y x ≡ true
     → lotOf account symbol x ≡ false
 not-both account symbol a y x e h =
-    rw (lot-party a y x h, lot-symbol a y x h) (go (is kindLot x) (eqb a account) (eqb y symbol) e)
-  where
-    go : (k p s : Bool) → (p && s) ≡ false → (k && p && s) ≡ false
-    go true p s q = q
-    go false p s q = refl
+    rw (lot-party a y x h, lot-symbol a y x h) (third (is kindLot x) (eqb a account) (eqb y symbol) e)
 
 -- one that passes is there where one is counted
 module _ (p : Row → Bool) (l : List Row) (h : 1 ≤ count p l) where
