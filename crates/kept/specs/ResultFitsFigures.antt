@@ -45,8 +45,8 @@ tax-in-range status rates bought sold r s =
     (λ e. let h = tax-taken status rates bought sold r s {x = true} (sym e) refl in rw (← h .0) (h .1))
     (λ e. rw (← tax-none status rates bought sold {x = false} (sym e) refl) (omega arith))
 
-pub commission-in-range : (rate shares price : ℕ) → rate ≤ commissionPart .high → shares ≤ sharesMost → price ≤ priceMost
-    → commissionOf rate shares price ≤ fee .high
+pub commission-in-range : (rate shares price : ℕ) → rate ≤ commissionPart .high → shares ≤ sharesMost
+    → price ≤ priceMost → commissionOf rate shares price ≤ fee .high
 commission-in-range rate shares price r s p = let h = commission-taken rate shares price r s p in rw (← h .0) (h .1)
 
 -- ---- the settlement

@@ -66,7 +66,8 @@ module _ (rs : List Row) (input : Row) (good : sound rs ≡ true) (right : resul
   tax-most =
       let v = view rs input in
       let t = v .trade in
-      let sold = sold-in-range (t .form) (input .n1) (t .n1) (v .lots) (price-fits input right) prices-near shares-near in
+      let price = price-fits input right in
+      let sold = sold-in-range (t .form) (input .n1) (t .n1) (v .lots) price prices-near shares-near in
       tax-in-range (v .account .form) (v .rates) _ _ rates-near sold
 
   amount-most : natAbs (figures input (view rs input) .settlement) ≤ moneyMost

@@ -86,7 +86,8 @@ module _ {rs : List Row} {t summary account broker : Row} {cs : List Closing}
 
   -- rows of another number, of a kind that is written with the trade's number
   pub others : (k : ℕ) → among k idKinds ≡ true → among k lotKinds ≡ false → eqb kindTradeHistory k ≡ false
-      → eqb kindAccount k ≡ false → eqb kindBroker k ≡ false → (i : ℕ) → (t .id ≡ i → ⊥) → All (Quiet (hasKey (byId k i))) (all r n)
+      → eqb kindAccount k ≡ false → eqb kindBroker k ≡ false → (i : ℕ) → (t .id ≡ i → ⊥)
+      → All (Quiet (hasKey (byId k i))) (all r n)
   others k known a h c b i ne =
       by-kind r n (Quiet p) k p (key-of (byId k i)) a (λ w x y. (x, y)) (no h)
       (λ e. (free, other-number k known i (settlementOf t n) ne))
