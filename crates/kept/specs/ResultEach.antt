@@ -76,7 +76,7 @@ pub record Each (t summary account : Row) (cs : List Closing) (n : Sums) (Q : Ro
   pub freed : All (λ (c : Closing). Q (c .lot, nothing)) cs
   pub emptied : is kindFree summary ≡ false → Q (summary, nothing)
 
--- the kinds of which a result takes rows away, and their histories
+-- free places, lots, summaries and lot histories
 abbrev pub lotKinds : List ℕ
 lotKinds = kindFree ∷ kindLot ∷ kindSummary ∷ kindLotHistory ∷ []
 
@@ -143,7 +143,7 @@ module _ {rs : List Row} {t summary account broker : Row} {cs : List Closing}
       (all-map (λ (h : Row). (nothing, h)) Q (added t summary cs n) (each-added e))
       (all-append Q (ws ++ w) os (all-append Q ws w (each-changed e) (all-one Q _ g)) (each-freed e))
 
-  -- ---- where a test passes rows of such a kind only, no more is to be shown than of the rows of that kind
+  -- ---- where a test passes rows of one other kind only, no more is to be shown than of the rows of that kind
   module _ (k : ℕ) (p : Row → Bool) (only : OfKind k p) (a : among k lotKinds ≡ false)
       (quiet : (w : Row × Row) → p (w .0) ≡ false → p (w .1) ≡ false → Q w) where
     off : (j : ℕ) → eqb j k ≡ false → (x : Row) → x .kind ≡ j → p x ≡ false
