@@ -17,15 +17,14 @@ use Rattle.rules.specs.Rules.{feedInput, lookupInput, orderInput, resultInput}
 use Rattle.model.specs.Call.{Reply, choose, feedCall, isDone, lookupCall, mostInputs, orderCall, replied, resultCall}
 use Rattle.model.specs.Call.{shell}
 use Rattle.model.specs.Feed.{feed}
-use Rattle.model.specs.Lookup.{looked, lookup}
-use Rattle.model.specs.Names.{aTrade}
+use Rattle.model.specs.Lookup.{lookup}
 use Rattle.model.specs.Order.{order}
-use Rattle.model.specs.Plan.{Outcome, accepted, pick, refused}
+use Rattle.model.specs.Plan.{Outcome, pick, refused}
 use Rattle.model.specs.Result.{result}
-use Rattle.model.specs.Rows.{bytes, mostRecords, recordSize, rows, there, wholeRecords}
+use Rattle.model.specs.Rows.{bytes, mostRecords, recordSize, rows, wholeRecords}
 use Rattle.model.specs.Sound.{sound}
-use Rattle.model.specs.Unposted.{refusal-leaves}
-use Rattle.model.specs.declared.Status.the-variants.{BadBook, BadInput, BadLength, LookupNoTrade, Unsound}
+use Rattle.model.specs.Unposted.{lookup-rows, refusal-leaves}
+use Rattle.model.specs.declared.Status.the-variants.{BadBook, BadInput, BadLength, Unsound}
 use Rattle.shelf.specs.Rows.{length-rows}
 use Rattle.tables.specs.Found.{sound-s1}
 use Rattle.kept.specs.Bytes.{length-bytes, puts-length, rows-bytes}
@@ -121,15 +120,6 @@ result-length : (rs : List Row) (input : Row) → sound rs ≡ true → isDone (
     → length (result rs input .rows) ≡ length rs
 result-length rs input good done =
     ap length (result-writes rs input good (accepted-all rs input done)) ∙ puts-length (writes (postingOf rs input)) rs
-
-looks-only : (t : Bool) (rs inputs : List Row)
-    → pick t (accepted (looked rs inputs) rs) (refused LookupNoTrade rs) .rows ≡ rs
-looks-only true rs inputs = refl
-looks-only false rs inputs = refl
-
-lookup-rows : (rs inputs : List Row) → lookup rs inputs .rows ≡ rs
-unfolding lookup
-lookup-rows rs inputs = looks-only (every (λ (i : Row). there (aTrade (i .id)) rs) inputs) rs inputs
 
 module _ (b input answer : List ℕ) where
   abbrev one : Bool

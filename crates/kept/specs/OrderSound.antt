@@ -1,8 +1,8 @@
 -- An accepted order leaves a sound book: S1 to S10 together. Assumes nothing.
 use mathlib.Core.Path.{_≡_, refl, sym, ap, _∙_}
 use mathlib.Core.Bool.{Bool, true, false, cond, false≢true}
-use mathlib.Core.List.{List, [], _∷_}
-use Prim.Native.Nat.{ℕ, suc, _≤_}
+use mathlib.Core.List.{List}
+use Prim.Native.Nat.{ℕ, _≤_}
 use native.Mathlib.Omega.{arith}
 use lib.Dec.{eqb, leb}
 use lib.ListN.{length}
@@ -29,7 +29,7 @@ use Rattle.lots.specs.Money.{commission-taken}
 use Rattle.lots.specs.Terms.{rate-most}
 use Rattle.order.specs.Bounds.{price-most}
 use Rattle.order.specs.Estimate.{estimated, termsOf}
-use Rattle.order.specs.Judge.{judged, judged-outcome, judged-status, orderStatus, rowsAdded}
+use Rattle.order.specs.Judge.{how-many, judged, judged-outcome, judged-status, orderStatus, rowsAdded}
 use Rattle.order.specs.Post.{addedRows, rowsAfter}
 use Rattle.result.specs.Apart.{found-kind, found-live, found-member, key-kind}
 use Rattle.kept.specs.Bytes.{puts-length}
@@ -79,10 +79,6 @@ passed-all rs input =
       number = leb-true (v .number) (tradeNumber .high) ef;
       space = leb-true (rowsAdded input) (room rs) eg;
     }
-
-how-many : (t : Bool) (r : Row) → suc (suc (length (cond t [] (r ∷ [])))) ≡ cond t 2 3
-how-many true r = refl
-how-many false r = refl
 
 module _ (rs : List Row) (input : Row) (good : sound rs ≡ true) (right : orderInput input ≡ true) where
   abbrev v : View
