@@ -262,13 +262,13 @@ pub record Fits (rs es : List Row) : Type 0 where
   pub volumes : every (volumeFits rs es) es ≡ true
 
 module _ {rs : List Row} {e : Row} {es : List Row} (s : Fits rs (e ∷ es)) where
-  pub fits-known : there (aSecurity (e .symbol)) rs ≡ true
+  fits-known : there (aSecurity (e .symbol)) rs ≡ true
   unfolding every
   fits-known =
       and-left (there (aSecurity (e .symbol)) rs) (every (λ (x : Row). there (aSecurity (x .symbol)) rs) es)
       (s .known)
 
-  pub fits-volume : found (aSecurity (e .symbol)) rs .m1 + e .n2 ≤ volume .high
+  fits-volume : found (aSecurity (e .symbol)) rs .m1 + e .n2 ≤ volume .high
   unfolding every volumeFits sharesFor total
   fits-volume =
       let y = e .symbol in
@@ -278,7 +278,7 @@ module _ {rs : List Row} {e : Row} {es : List Row} (s : Fits rs (e ∷ es)) wher
       let q : sharesFor y (e ∷ es) ≡ e .n2 + sharesFor y es = rw (eq-eqb y y refl) in
       omega arith
 
-  pub fits-next : (n : ℕ) → Fits (applied (record { rows = rs; trades = n }) e .rows) es
+  fits-next : (n : ℕ) → Fits (applied (record { rows = rs; trades = n }) e .rows) es
   unfolding every volumeFits sharesFor total
   fits-next n =
       let f : Fed = record { rows = rs; trades = n } in

@@ -42,7 +42,7 @@ use Rattle.result.specs.Rows.{accountChanges, brokerAfter, closedLots, c
 use Rattle.result.specs.Rows.{summaryChanges, summaryGone, summedShares, tradeAfter}
 
 -- ---- a row that is found stands where its key does
-pub spot-found : (k : Key) (rs : List Row) → there k rs ≡ true → spot rs (found k rs) ≡ place (hasKey k) rs
+spot-found : (k : Key) (rs : List Row) → there k rs ≡ true → spot rs (found k rs) ≡ place (hasKey k) rs
 unfolding hasKey
 spot-found k rs e =
     ap (λ (x : Key). place (hasKey x) rs) (same-keys (keyOf (found k rs)) k (found-has k rs e))
@@ -64,7 +64,7 @@ module _ (rs : List Row) (k : Key) where
   abbrev at : ℕ
   at = place (hasKey k) rs
 
-  pub summary-puts : (t : Row) → map (placed rs) (summaryChanges t it) ≡ summaryPut t it at
+  summary-puts : (t : Row) → map (placed rs) (summaryChanges t it) ≡ summaryPut t it at
   summary-puts t =
       let z = summedShares t it in
       at-place (placed rs) (not (is kindFree it) && not (gone z)) (it, holding it z) (at, holding it z)
@@ -72,7 +72,7 @@ module _ (rs : List Row) (k : Key) where
       ap (λ (n : ℕ). (n, holding it z))
       (spot-found k rs (found-live rs k (and-held (is kindFree it) (not (gone z)) h))))
 
-  pub summary-frees : (t : Row) → map (placed rs) (frees (summaryGone t it)) ≡ summaryFree t it at
+  summary-frees : (t : Row) → map (placed rs) (frees (summaryGone t it)) ≡ summaryFree t it at
   summary-frees t =
       let g = gone (summedShares t it) in
       go (not (is kindFree it) && g) (λ h. spot-found k rs (found-live rs k (and-held (is kindFree it) g h)))
@@ -82,7 +82,7 @@ module _ (rs : List Row) (k : Key) where
       go true e = ap (λ (n : ℕ). (n, nothing) ∷ []) (e refl)
       go false e = refl
 
-  pub account-puts : (t : Row) (z : ℤ) → there k rs ≡ true
+  account-puts : (t : Row) (z : ℤ) → there k rs ≡ true
       → map (placed rs) (accountChanges t it z) ≡ accountPut t it z at
   account-puts t z e =
       at-place (placed rs) (cash (t .flags)) (it, holding it z) (at, holding it z)
@@ -108,7 +108,7 @@ module _ (rs : List Row) (input : Row) (v : View) (f : Figures) (k : Key) where
   writes =
       posting input v f .changes ++ (b, brokerAfter b (f .commission)) ∷ [] ++ frees (posting input v f .freed)
 
-  pub by-place : (at : Places) {part : List (ℕ × Row)} {ps : List ℕ}
+  by-place : (at : Places) {part : List (ℕ × Row)} {ps : List ℕ}
       → part ≡ map (placed rs) (lotChanges t cs) → ps ≡ map (spot rs) (closedLots cs)
       → map (placed rs) (summaryChanges t (v .summary)) ≡ summaryPut t (v .summary) (at .summary)
       → map (placed rs) (frees (summaryGone t (v .summary))) ≡ summaryFree t (v .summary) (at .summary)

@@ -148,7 +148,7 @@ module _ {rs : List Row} {t summary account broker : Row} {cs : List Closing}
         let one = one-kind (k .kind) in
         omega arith
 
-  pub result-by-place : puts sameRow (writes t summary account broker cs n)
+  result-by-place : puts sameRow (writes t summary account broker cs n)
       (fill sameRow nothing (added t summary cs n) rs)
       ≡ sets (map (placed rs) (writes t summary account broker cs n))
       (fill sameRow nothing (added t summary cs n) rs)

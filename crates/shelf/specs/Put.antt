@@ -107,7 +107,7 @@ found-none k rs e = the-none (hasKey k) nothing rs e
 
 -- ---- a row is added in the lowest free place
 -- no row of the kind of free rows is anything but zeros
-abbrev pub Clean : List Row → Type 0
+abbrev Clean : List Row → Type 0
 Clean rs = (i : ℕ) → getD rs i nothing .kind ≡ kindFree → getD rs i nothing ≡ nothing
 
 free-place : (i : ℕ) (rs : List Row) → Clean rs → seek (sameRow nothing) i rs ≡ seek (is kindFree) i rs
@@ -121,7 +121,7 @@ free-place i (x ∷ l) c =
     in
     rw (e, free-place (i + 1) l (λ j. c (suc j)))
 
-pub put-free : (n : Row) (rs : List Row) → Clean rs → put sameRow nothing n rs ≡ set rs (freeFrom rs 0) n
+put-free : (n : Row) (rs : List Row) → Clean rs → put sameRow nothing n rs ≡ set rs (freeFrom rs 0) n
 put-free n rs c = put-place sameRow nothing n rs ∙ rw (free-place 0 rs c)
 
 none : (x : ℕ) → x ≤ 0 → x ≡ 0
@@ -145,7 +145,7 @@ clean-fit rs e i k = go (ltb i (length rs)) refl
     go true h = free-is (getD rs i nothing) (every-at fits nothing rs i e (ltb-true i (length rs) h)) k
     go false h = List·getD-eq-default rs nothing (ltb-false i (length rs) h)
 
-pub clean-set : (rs : List Row) (i : ℕ) (n : Row) → Clean rs → (n .kind ≡ kindFree → ⊥) → Clean (set rs i n)
+clean-set : (rs : List Row) (i : ℕ) (n : Row) → Clean rs → (n .kind ≡ kindFree → ⊥) → Clean (set rs i n)
 clean-set rs i n c f j k = go (eqb j i) (ltb i (length rs)) refl refl
   where
     go : (t u : Bool) → eqb j i ≡ t → ltb i (length rs) ≡ u → getD (set rs i n) j nothing ≡ nothing

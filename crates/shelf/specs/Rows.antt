@@ -68,7 +68,7 @@ rows-in b i r z h =
 rows-out : (b : List ℕ) (i : ℕ) (r : Row) → length b / 64 ≤ i → rows (putAt b i r) ≡ set (rows b) i r
 rows-out b i r h = rw (putAt-past b i r h, set-out (rows b) i r (rw length-rows h))
 
-pub rows-put : (b : List ℕ) (i : ℕ) (r : Row) → Sized r → rows (putAt b i r) ≡ set (rows b) i r
+rows-put : (b : List ℕ) (i : ℕ) (r : Row) → Sized r → rows (putAt b i r) ≡ set (rows b) i r
 rows-put b i r z = ⊎-elim (rows-in b i r z) (rows-out b i r) (in-or-past i (length b / 64))
 
 -- what a put promises of the bytes that it leaves

@@ -113,7 +113,7 @@ rows-right rs =
     (split bcqhlp (each kindLotHistory (tradesDone rs)) rs (split bcqhl p rs (split bcqh l rs (split bcq h rs
     (split bc q rs (split b c rs refl refl) refl) refl) refl) refl) refl)
 
-pub sound-by-row : (rs : List Row) → (s1 rs && s2 rs && every (rowRight rs) rs) ≡ sound rs
+sound-by-row : (rs : List Row) → (s1 rs && s2 rs && every (rowRight rs) rs) ≡ sound rs
 unfolding sound
 sound-by-row rs = go (s1 rs) (s2 rs) (s3 rs) refl refl refl
   where

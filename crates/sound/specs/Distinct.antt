@@ -22,7 +22,7 @@ use Rattle.shelf.specs.Rows.{length-rows, rowAt}
 use Rattle.laws.specs.Place.{seek-suc, some-place}
 
 -- the key of a row stands nowhere in a list
-abbrev pub nowhere : Row → List Row → Bool
+abbrev nowhere : Row → List Row → Bool
 nowhere r l = is kindFree r || eqb (count (hasKey (keyOf r)) l) 0
 
 unfoldable pub distinct : List Row → Bool

@@ -119,7 +119,7 @@ one-sign rs l u = go (short l) refl
 
 -- ---- the rules of a lot and of a summary, the sign told at the summary
 -- "a completed trade of its account and symbol"
-abbrev pub tradeAgrees : List Row → Row → Bool
+abbrev tradeAgrees : List Row → Row → Bool
 tradeAgrees rs l =
     eqb (found (aTrade (l .id)) rs .status) completed && eqb (found (aTrade (l .id)) rs .party) (l .party)
     && eqb (found (aTrade (l .id)) rs .symbol) (l .symbol)
@@ -130,7 +130,7 @@ lotKept rs l = tradeAgrees rs l && there (aSummary (l .party) (l .symbol)) rs
 abbrev equalShares : List Row → Row → Bool
 equalShares rs s = equalZ (sumZ (sharesOf (s .party) (s .symbol)) rs) (toZ w64 (s .m1))
 
-abbrev pub oneSided : List Row → ℕ → ℕ → Bool
+abbrev oneSided : List Row → ℕ → ℕ → Bool
 oneSided rs account symbol =
     eqb (total (sharesPart false account symbol) rs) 0 || eqb (total (sharesPart true account symbol) rs) 0
 

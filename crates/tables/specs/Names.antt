@@ -21,7 +21,7 @@ ofId kind id r = is kind r && eqb (r .id) id
 abbrev pub ofParty : ℕ → ℕ → Row → Bool
 ofParty kind party r = is kind r && eqb (r .party) party
 
-abbrev pub ofSymbol : ℕ → ℕ → Row → Bool
+abbrev ofSymbol : ℕ → ℕ → Row → Bool
 ofSymbol kind symbol r = is kind r && eqb (r .symbol) symbol
 
 abbrev pub idKinds : List ℕ

@@ -34,10 +34,10 @@ module _ (b : List ℕ) (s : Status) (e : s ≡ bookStatus 1024 b) where
     go false w p q = answer-bad (rw p at e)
 
 -- the lines that the program has as they are
-abbrev pub refused101 : List ℕ
+abbrev refused101 : List ℕ
 refused101 = 114 ∷ 101 ∷ 102 ∷ 117 ∷ 115 ∷ 101 ∷ 100 ∷ 32 ∷ 45 ∷ 49 ∷ 48 ∷ 49 ∷ 10 ∷ []
 
-abbrev pub refused102 : List ℕ
+abbrev refused102 : List ℕ
 refused102 = 114 ∷ 101 ∷ 102 ∷ 117 ∷ 115 ∷ 101 ∷ 100 ∷ 32 ∷ 45 ∷ 49 ∷ 48 ∷ 50 ∷ 10 ∷ []
 
 pub bad-line : refused101 ≡ refused 101

@@ -22,7 +22,7 @@ wrote-byte p at b h = record {
   same = rw add-one (take-suc-set p at b h);
 }
 
-pub wrote-none : (p : List ℕ) (at : ℕ) → Wrote p at p at []
+wrote-none : (p : List ℕ) (at : ℕ) → Wrote p at p at []
 wrote-none p at = record { long = refl; next = sym (add-zero at); same = sym (append-nil (take at p)) }
 
 pub wrote-more : {p q r t u : List ℕ} {a b c : ℕ} → Wrote p a q b t → Wrote q b r c u → Wrote p a r c (t ++ u)
