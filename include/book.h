@@ -1,5 +1,6 @@
 /*
- * The calls of the proved book, for C99 and C++11. Link libbook.a, which `rt staticlib book` writes (x86-64).
+ * The calls of the proved book, for C99 and C++11. Link libbook.a, which `tools/lib` writes for the processor at hand or for
+ * another target (docs/PLATFORMS.md).
  *
  * A book is a run of 1 to 4,096 records of 64 bytes, without a header. A record of 64 zeros is free. Numbers are
  * little-endian, signed ones two's complement. "The page of the rules" is "Build scope and exact rules".

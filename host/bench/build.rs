@@ -1,6 +1,6 @@
 //! Says what each program is linked with, so that one can be built without what the others need: `soundness` with
-//! libgauge.a from GAUGE_DIR, `calls` with libbook.a from BOOK_DIR, `sqlite` with that and with SQLite. The folders are
-//! target/staticlib unless they are named.
+//! libgauge.a from GAUGE_DIR, `calls` with libbook.a from BOOK_DIR, `sqlite` with that and with SQLite. A folder that is not
+//! named is the one where `tools/lib` writes for this processor.
 
 use std::path::PathBuf;
 
@@ -9,7 +9,7 @@ fn archive(variable: &str, name: &str) -> String {
     let here = PathBuf::from(std::env::var("CARGO_MANIFEST_DIR").unwrap());
     let folder = match std::env::var(variable) {
         Ok(folder) => PathBuf::from(folder),
-        Err(_) => here.join("../../target/staticlib"),
+        Err(_) => here.join(format!("../../target/lib/{}-unknown-linux-gnu", std::env::consts::ARCH)),
     };
     let library = folder.join(name);
     println!("cargo:rerun-if-changed={}", library.display());

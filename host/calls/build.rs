@@ -1,4 +1,4 @@
-//! Links libbook.a, which `rt staticlib book` writes: from the folder that BOOK_DIR names, or target/staticlib.
+//! Links libbook.a: from the folder that BOOK_DIR names, or from the one where `tools/lib` writes it for this processor.
 
 use std::path::PathBuf;
 
@@ -7,7 +7,7 @@ fn main() {
     let here = PathBuf::from(std::env::var("CARGO_MANIFEST_DIR").unwrap());
     let folder = match std::env::var("BOOK_DIR") {
         Ok(folder) => PathBuf::from(folder),
-        Err(_) => here.join("../../target/staticlib"),
+        Err(_) => here.join(format!("../../target/lib/{}-unknown-linux-gnu", std::env::consts::ARCH)),
     };
     let library = folder.join("libbook.a");
     println!("cargo:rerun-if-changed={}", library.display());
