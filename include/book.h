@@ -1,20 +1,171 @@
-/*
- * The calls of the proved book, for C99 and C++11. Link libbook.a, which `tools/lib` writes for the processor at hand or for
- * another target (docs/PLATFORMS.md).
+/**
+ * @file
+ * The calls of the proved book, for C99 and C++11. Link libbook.a or libbook.so.
  *
- * A book is a run of 1 to 4,096 records of 64 bytes, without a header. A record of 64 zeros is free. Numbers are
- * little-endian, signed ones two's complement. "The page of the rules" is "Build scope and exact rules".
+ * A book is a run of 1 to 4,096 records of 64 bytes, without a header. A record of 64 zeros is free. Every other one
+ * is a row of one of the kinds 1 to 16 below. Numbers are little-endian, signed ones two's complement. What a client
+ * needs first, reading and writing rows and the text of a status, is in book_row.h.
  *
  * For every call:
  * - An area is a pointer and its length in bytes. Any alignment will do. The areas of one call must not overlap.
- * - No pointer may be NULL, not even with length 0. Nothing is read or written outside the areas.
+ * - A NULL pointer with length 0 is an empty area. Nothing is read or written outside the areas.
  * - It returns its status: the first of its statuses, in the order of checking, whose condition holds, else 0.
  * - BOOK_BAD_LENGTH writes nothing at all. Any other refusal leaves the book as it was and fills the answer with
  *   zeros, but for the status, signed, in bytes 60 to 63 of the whole area. On success these four bytes are zero.
+ *   An area that is refused for its length is not read, whatever the length.
  * - What was in the answer area before does not matter.
  * - No state is kept between calls, nothing is allocated, and no call blocks. Threads may call at once if no area that
  *   one of them may write is an area of another.
- * - A call takes less than 512 KiB of stack.
+ * - A call takes at most BOOK_MOST_STACK bytes of stack, 256 KiB. The most that was measured is 154 KiB.
+ *
+ * The kinds
+ * =========
+ *
+ * Each kind with the fields that it uses; all other fields are zero. A star marks the key. Fields are unsigned unless
+ * they are called signed. Money is in cents, times are seconds from 2000-01-01. A symbol is 1 to 7 of A-Z, 0-9, "."
+ * and "-", then zeros; its last byte is always zero. Trade types are listed at BOOK_TMB, trade statuses at BOOK_PNDG.
+ * No call adds a row of kinds 1 to 8: the caller does. Kinds 33 to 36 are what the calls are asked with.
+ * @verbatim
+ *  1 broker
+ *    * party   1..999,999,999                 its number
+ *      n1      0..999,999,999                 trades that it carried out
+ *      m1      0..999,999,999,999,999         its commissions in all
+ *  2 customer
+ *    * party   1..999,999,999                 its number
+ *      type    1..3                           its tier
+ *  3 tax rate
+ *    * party   1..999,999,999                 its number
+ *      n1      0..100,000                     the rate, in hundred-thousandths
+ *  4 customer's rate: this customer pays this tax rate
+ *    * party   1..999,999,999                 the customer
+ *    * n1      1..999,999,999                 the tax rate's number
+ *  5 account
+ *    * party   1..999,999,999                 its number
+ *      type    0..2                           tax status: 0 none, 1 taken from settlements, 2 recorded only
+ *      n1      1..999,999,999                 its broker
+ *      n2      1..999,999,999                 its customer
+ *      m1      -999,999,999,999,999..999,999,999,999,999   its balance, signed
+ *  6 security
+ *    * symbol
+ *      type    1..4                           its exchange
+ *      n1      1..99,999,999                  its last price
+ *      m1      0..999,999,999,999             its volume, in shares
+ *      time    0..4,000,000,000               of the last price
+ *  7 commission band: the rate for orders of n1 to n2 shares
+ *    * type    1..5                           the trade type
+ *    * status  1..3                           the customer's tier
+ *    * flags   1..4                           the security's exchange
+ *    * n1      1..999,999                     from so many shares
+ *      n2      1..999,999                     to so many shares, not below n1
+ *      n3      0..10,000                      the rate, in hundredths of a percent
+ *  8 charge
+ *    * type    1..5                           the trade type
+ *    * status  1..3                           the customer's tier
+ *      n1      0..999,999                     the charge of an order
+ *  9 trade
+ *    * id      1..999,999,999,999,999         its number
+ *      type    1..5                           its trade type
+ *      status  1..3                           its trade status
+ *      flags   0..3                           BOOK_FLAG_CASH and BOOK_FLAG_LIFO, added up
+ *      party   1..999,999,999                 its account
+ *      symbol                                 its security
+ *      n1      1..999,999                     its shares
+ *      n2      1..99,999,999                  the bid, or the last price when it was ordered
+ *      n3      0..99,999,999                  the price that it was carried out at: 0 until status 3, and not 0 then
+ *      n4      0..999,999                     the charge
+ *      m1      0..100,000,000,000,000         the commission, estimated until status 3
+ *      m2      0..100,000,000,000,000         the tax: 0 until status 3
+ *      time    0..4,000,000,000               of its present status
+ * 10 request: a pending trade that waits for its price
+ *    * id      1..999,999,999,999,999         the trade
+ *      type    1..5                           the trade's
+ *      party   1..999,999,999                 the broker of the trade's account
+ *      symbol                                 the trade's
+ *      n1      1..999,999                     the trade's shares
+ *      n2      1..99,999,999                  the trade's bid
+ * 11 trade history: when a trade took a status
+ *    * status  1..3                           the trade status
+ *    * id      1..999,999,999,999,999         the trade
+ *      time    0..4,000,000,000               when
+ * 12 lot: shares that an account holds, or owes, by one trade
+ *    * id      1..999,999,999,999,999         the trade
+ *      party   1..999,999,999                 the account
+ *      symbol                                 the security
+ *      n1      1..99,999,999                  the price that they were bought or sold at
+ *      m1      -999,999..999,999              the shares, signed, below 0 where they are owed; never 0
+ *      time    0..4,000,000,000               when
+ * 13 summary: the sum of the lots of one account and symbol
+ *    * party   1..999,999,999                 the account
+ *    * symbol                                 the security
+ *      m1      any but 0                      the shares, signed
+ * 14 lot history: how a trade changed a lot
+ *    * id      1..999,999,999,999,999         the lot, which may be gone
+ *    * m2      1..999,999,999,999,999         the trade that changed it
+ *      n1      -999,999..999,999              the lot's shares before, signed
+ *      n2      -999,999..999,999              and after, signed, not equal to n1
+ * 15 settlement
+ *    * id      1..999,999,999,999,999         the trade
+ *      flags   0..1                           BOOK_FLAG_CASH if the trade is cash
+ *      m1      -999,999,999,999,999..999,999,999,999,999   the amount, signed, below 0 for a buy
+ *      time    0..4,000,172,800               when it is due
+ * 16 cash
+ *    * id      1..999,999,999,999,999         the trade
+ *      m1      -999,999,999,999,999..999,999,999,999,999   the amount, signed
+ *      time    0..4,000,000,000               when
+ * 33 order
+ *      type    1..5                           the trade type
+ *      flags   0..7                           BOOK_FLAG_CASH, BOOK_FLAG_LIFO and BOOK_FLAG_ROLL_BACK, added up
+ *      party   1..999,999,999                 the account
+ *      symbol                                 the security
+ *      n1      1..999,999                     the shares
+ *      n2      0..99,999,999                  the bid: 0 for types 1 and 2, and not 0 for the others
+ *      time    0..4,000,000,000               when
+ * 34 result
+ *      id      1..999,999,999,999,999         the trade
+ *      n1      1..99,999,999                  the price
+ *      time    0..4,000,000,000               when
+ * 35 feed
+ *      symbol                                 the security
+ *      n1      1..99,999,999                  its new price
+ *      n2      1..999,999                     the shares that were traded
+ *      time    0..4,000,000,000               when
+ * 36 lookup
+ *      id      1..999,999,999,999,999         the trade
+ * @endverbatim
+ *
+ * A sound book
+ * ============
+ *
+ * A call refuses a book with BOOK_UNSOUND unless all of this holds. An accepted call leaves a sound book. `book-check`
+ * names the rule that a book breaks, and the place.
+ * @verbatim
+ * S1  every record is free or fits the table above
+ * S2  keys are unique within a kind
+ * S3  every broker, customer, tax rate, account, security and trade that a row names is there
+ * S4  bands of equal type, tier and exchange do not overlap
+ * S5  a customer's tax rates sum to at most 100,000
+ * S6  a trade of status 1 has type 3, 4 or 5 and a request that agrees with it; no other trade has a request
+ * S7  a trade has the history row of its present status and none of a higher one
+ * S8  a lot names a completed trade of its account and symbol; lots of one account and symbol have one sign; a summary
+ *     is there exactly where lots are, and equals their sum
+ * S9  a settlement is there exactly for a completed trade, its flag the trade's cash flag; a cash row is there exactly
+ *     where that flag is 1, with the same amount
+ * S10 both trades of a lot history are completed
+ * @endverbatim
+ *
+ * A smallest book
+ * ===============
+ *
+ * One free record is a sound book. The smallest on which a market buy can be ordered and carried out has 13 records:
+ * these six rows, and free places for the two that the order adds and the five of the result (six for a cash trade).
+ * @verbatim
+ * broker    party 1
+ * customer  party 1, type 1
+ * account   party 1, n1 1, n2 1
+ * security  symbol ABC, type 1, n1 2,000
+ * band      type 1, status 1, flags 1, n1 1, n2 1,000, n3 50
+ * charge    type 1, status 1, n1 500
+ * @endverbatim
  */
 #ifndef BOOK_H
 #define BOOK_H
@@ -26,113 +177,126 @@
 extern "C" {
 #endif
 
-/* What a call returns, in the order of checking. The comment is the condition. */
-enum {
-    BOOK_DONE = 0,                    /* no refusal */
-    BOOK_BAD_LENGTH = -100,           /* input or answer area has the wrong length */
-    BOOK_BAD_BOOK = -101,             /* book length is 0, no multiple of 64, or over 4,096 records */
-    BOOK_UNSOUND = -102,              /* the book is not sound: S1 to S10 of the page of the rules */
-    BOOK_BAD_INPUT = -103,            /* an input field breaks its rule */
-    BOOK_ORDER_NO_ACCOUNT = -711,     /* order: no such account */
-    BOOK_ORDER_NO_SECURITY = -712,    /* order: no such security */
-    BOOK_ORDER_NO_TAX = -731,         /* order: gain and tax status 1 or 2, yet tax is 0 */
-    BOOK_ORDER_NO_RATE = -732,        /* order: rate 0 or no band */
-    BOOK_ORDER_NO_CHARGE = -733,      /* order: charge 0 or no row */
-    BOOK_RESULT_NO_TRADE = -811,      /* result: no such trade */
-    BOOK_RESULT_NOT_SUBMITTED = -812, /* result: its status is not 2 */
-    BOOK_RESULT_NO_TAX = -831,        /* result: gain and tax status 1 or 2, yet tax is 0 */
-    BOOK_RESULT_NO_RATE = -841,       /* result: rate 0 or no band */
-    BOOK_FEED_NO_SECURITY = -311,     /* feed: an entry's security is unknown */
-    BOOK_LOOKUP_NO_TRADE = -611,      /* lookup: a trade is unknown */
-    BOOK_OVER_LIMIT = -104,           /* trade number, balance, broker's trades or commission total, or volume would
-                                         leave its range */
-    BOOK_NO_ROOM = -105               /* free places at entry are fewer than rows to add */
-};
+/* What stands between this line and the one that ends it is plain enough for cffi. */
 
-enum {
-    BOOK_RECORD_SIZE = 64,    /* bytes of a record */
-    BOOK_MOST_RECORDS = 4096, /* of a book */
-    BOOK_MOST_INPUTS = 20     /* records of one feed or lookup */
-};
+/** @name The version: of the header, the archive and the shared object. */
+/** @{ */
+#define BOOK_VERSION_MAJOR 1 /**< rises when a call that was accepted may now leave other bytes */
+#define BOOK_VERSION_MINOR 0 /**< rises with new calls, kinds or statuses */
+#define BOOK_VERSION_PATCH 0 /**< rises with any other change */
+/** @} */
 
-/* Where a field of a record begins. Fields that a kind does not use are zero. */
-enum {
-    BOOK_AT_KIND = 0,    /* 1 byte */
-    BOOK_AT_TYPE = 1,    /* 1 byte */
-    BOOK_AT_STATUS = 2,  /* 1 byte */
-    BOOK_AT_FLAGS = 3,   /* 1 byte */
-    BOOK_AT_PARTY = 4,   /* 4 bytes */
-    BOOK_AT_ID = 8,      /* 8 bytes */
-    BOOK_AT_SYMBOL = 16, /* 8 bytes: 1 to 7 of A-Z, 0-9, "." and "-", then zeros; the last byte is always zero */
-    BOOK_AT_N1 = 24,     /* 4 bytes */
-    BOOK_AT_N2 = 28,     /* 4 bytes */
-    BOOK_AT_N3 = 32,     /* 4 bytes */
-    BOOK_AT_N4 = 36,     /* 4 bytes */
-    BOOK_AT_M1 = 40,     /* 8 bytes */
-    BOOK_AT_M2 = 48,     /* 8 bytes */
-    BOOK_AT_TIME = 56,   /* 4 bytes: seconds from 2000-01-01 */
-    BOOK_AT_N5 = 60      /* 4 bytes: zero in every row; the status in an answer */
-};
+/** @name What a call returns, in the order of checking. The comment is the condition. */
+/** @{ */
+#define BOOK_DONE 0                    /**< no refusal */
+#define BOOK_BAD_LENGTH -100           /**< input or answer area has the wrong length */
+#define BOOK_BAD_BOOK -101             /**< book length is 0, no multiple of 64, or over 4,096 records */
+#define BOOK_UNSOUND -102              /**< the book is not sound */
+#define BOOK_BAD_INPUT -103            /**< an input field breaks its rule */
+#define BOOK_ORDER_NO_ACCOUNT -711     /**< order: no such account */
+#define BOOK_ORDER_NO_SECURITY -712    /**< order: no such security */
+#define BOOK_ORDER_NO_TAX -731         /**< order: gain and tax status 1 or 2, yet tax is 0 */
+#define BOOK_ORDER_NO_RATE -732        /**< order: rate 0 or no band */
+#define BOOK_ORDER_NO_CHARGE -733      /**< order: charge 0 or no row */
+#define BOOK_RESULT_NO_TRADE -811      /**< result: no such trade */
+#define BOOK_RESULT_NOT_SUBMITTED -812 /**< result: the trade's status is not 2, submitted */
+#define BOOK_RESULT_NO_TAX -831        /**< result: gain and tax status 1 or 2, yet tax is 0 */
+#define BOOK_RESULT_NO_RATE -841       /**< result: rate 0 or no band */
+#define BOOK_FEED_NO_SECURITY -311     /**< feed: an entry's security is unknown */
+#define BOOK_LOOKUP_NO_TRADE -611      /**< lookup: a trade is unknown */
+#define BOOK_OVER_LIMIT -104           /**< trade number, balance, broker's trades or commission total, or volume
+                                            would leave its range */
+#define BOOK_NO_ROOM -105              /**< free places at entry are fewer than rows to add */
+/** @} */
 
-/* The kinds of rows. Each kind's fields and their ranges are on the page of the rules, "One grid for every row". */
-enum {
-    BOOK_KIND_BROKER = 1,
-    BOOK_KIND_CUSTOMER = 2,
-    BOOK_KIND_TAX_RATE = 3,
-    BOOK_KIND_CUSTOMER_RATE = 4,
-    BOOK_KIND_ACCOUNT = 5,
-    BOOK_KIND_SECURITY = 6,
-    BOOK_KIND_BAND = 7, /* commission band */
-    BOOK_KIND_CHARGE = 8,
-    BOOK_KIND_TRADE = 9,
-    BOOK_KIND_REQUEST = 10,
-    BOOK_KIND_HISTORY = 11, /* trade history */
-    BOOK_KIND_LOT = 12,
-    BOOK_KIND_SUMMARY = 13,
-    BOOK_KIND_LOT_HISTORY = 14,
-    BOOK_KIND_SETTLEMENT = 15,
-    BOOK_KIND_CASH = 16
-};
+/** @name Sizes. */
+/** @{ */
+#define BOOK_RECORD_SIZE 64    /**< bytes of a record */
+#define BOOK_MOST_RECORDS 4096 /**< of a book */
+#define BOOK_MOST_INPUTS 20    /**< records of one feed or lookup */
+#define BOOK_MOST_STACK 262144 /**< bytes of stack that a call takes, with all that it calls */
+/** @} */
 
-/* The kinds of input records. An order, a result and a feed answer one record of the same kind. */
-enum {
-    BOOK_KIND_ORDER = 33,
-    BOOK_KIND_RESULT = 34,
-    BOOK_KIND_FEED = 35,
-    BOOK_KIND_LOOKUP = 36
-};
+/** @name Where a field of a record begins. Fields that a kind does not use are zero. */
+/** @{ */
+#define BOOK_AT_KIND 0    /**< 1 byte */
+#define BOOK_AT_TYPE 1    /**< 1 byte */
+#define BOOK_AT_STATUS 2  /**< 1 byte */
+#define BOOK_AT_FLAGS 3   /**< 1 byte */
+#define BOOK_AT_PARTY 4   /**< 4 bytes */
+#define BOOK_AT_ID 8      /**< 8 bytes */
+#define BOOK_AT_SYMBOL 16 /**< 8 bytes; in the answer of an order or a result the tax, little-endian */
+#define BOOK_AT_N1 24     /**< 4 bytes */
+#define BOOK_AT_N2 28     /**< 4 bytes */
+#define BOOK_AT_N3 32     /**< 4 bytes */
+#define BOOK_AT_N4 36     /**< 4 bytes */
+#define BOOK_AT_M1 40     /**< 8 bytes */
+#define BOOK_AT_M2 48     /**< 8 bytes */
+#define BOOK_AT_TIME 56   /**< 4 bytes */
+#define BOOK_AT_N5 60     /**< 4 bytes: zero in every row; the status in an answer */
+/** @} */
 
-/* Trade types: 1 and 3 buy, the others sell. */
-enum {
-    BOOK_TMB = 1, /* market buy */
-    BOOK_TMS = 2, /* market sell */
-    BOOK_TLB = 3, /* limit buy */
-    BOOK_TLS = 4, /* limit sell */
-    BOOK_TSL = 5  /* stop loss */
-};
+/** @name The kinds of rows. */
+/** @{ */
+#define BOOK_KIND_BROKER 1        /**< broker */
+#define BOOK_KIND_CUSTOMER 2      /**< customer */
+#define BOOK_KIND_TAX_RATE 3      /**< tax rate */
+#define BOOK_KIND_CUSTOMER_RATE 4 /**< customer's rate */
+#define BOOK_KIND_ACCOUNT 5       /**< account */
+#define BOOK_KIND_SECURITY 6      /**< security */
+#define BOOK_KIND_BAND 7          /**< commission band */
+#define BOOK_KIND_CHARGE 8        /**< charge */
+#define BOOK_KIND_TRADE 9         /**< trade */
+#define BOOK_KIND_REQUEST 10      /**< request */
+#define BOOK_KIND_HISTORY 11      /**< trade history */
+#define BOOK_KIND_LOT 12          /**< lot */
+#define BOOK_KIND_SUMMARY 13      /**< summary */
+#define BOOK_KIND_LOT_HISTORY 14  /**< lot history */
+#define BOOK_KIND_SETTLEMENT 15   /**< settlement */
+#define BOOK_KIND_CASH 16         /**< cash */
+/** @} */
 
-/* Trade statuses. */
-enum {
-    BOOK_PNDG = 1, /* pending: it has a request */
-    BOOK_SBMT = 2, /* submitted */
-    BOOK_CMPT = 3  /* completed: it has a settlement */
-};
+/** @name The kinds of input records. An order, a result and a feed answer one record of the same kind. */
+/** @{ */
+#define BOOK_KIND_ORDER 33  /**< order */
+#define BOOK_KIND_RESULT 34 /**< result */
+#define BOOK_KIND_FEED 35   /**< feed */
+#define BOOK_KIND_LOOKUP 36 /**< lookup */
+/** @} */
 
-/* Flags, added up. Trades have the first two, settlements the first, order inputs all three. */
-enum {
-    BOOK_FLAG_CASH = 1,
-    BOOK_FLAG_LIFO = 2,
-    BOOK_FLAG_ROLL_BACK = 4
-};
+/** @name Trade types: 1 and 3 buy, the others sell. */
+/** @{ */
+#define BOOK_TMB 1 /**< market buy */
+#define BOOK_TMS 2 /**< market sell */
+#define BOOK_TLB 3 /**< limit buy */
+#define BOOK_TLS 4 /**< limit sell */
+#define BOOK_TSL 5 /**< stop loss */
+/** @} */
 
-/*
+/** @name Trade statuses. */
+/** @{ */
+#define BOOK_PNDG 1 /**< pending */
+#define BOOK_SBMT 2 /**< submitted */
+#define BOOK_CMPT 3 /**< completed */
+/** @} */
+
+/** @name Flags, added up. Trades have the first two, settlements the first, order inputs all three. */
+/** @{ */
+#define BOOK_FLAG_CASH 1      /**< cash */
+#define BOOK_FLAG_LIFO 2      /**< LIFO */
+#define BOOK_FLAG_ROLL_BACK 4 /**< roll back */
+/** @} */
+
+/**
  * Trade-Order: a new trade.
  *
- *   book    read and written; book_len is 64 times the number of records, 1 to 4,096
- *   input   read: one record, input_len is 64. Kind 33, type 1..5, flags any of cash 1, LIFO 2 and roll back 4, party
- *           the account 1..999,999,999, symbol, n1 shares 1..999,999, n2 bid: 0 for types 1 and 2, 1..99,999,999 for
- *           the others, time 0..4,000,000,000; all else zero
- *   answer  written: one record, answer_len is 64
+ * @param book       read and written
+ * @param book_len   64 times the number of records, 1 to 4,096
+ * @param input      read: one record of kind 33
+ * @param input_len  64
+ * @param answer     written: one record
+ * @param answer_len 64
+ * @return the status
  *
  * Statuses, in the order of checking: BOOK_BAD_LENGTH, BOOK_BAD_BOOK, BOOK_UNSOUND, BOOK_BAD_INPUT,
  * BOOK_ORDER_NO_ACCOUNT, BOOK_ORDER_NO_SECURITY, BOOK_ORDER_NO_TAX, BOOK_ORDER_NO_RATE, BOOK_ORDER_NO_CHARGE,
@@ -159,6 +323,7 @@ enum {
  * The book is sound again, and no other byte of it changed. With roll back no byte of the book changed, and the answer
  * is the same. The answer is zeros but for these fields:
  *
+ * @verbatim
  *   kind  byte 0       33
  *   id    bytes 8-15   the trade's number
  *         bytes 16-23  the tax, little-endian, where a row has its symbol
@@ -167,17 +332,21 @@ enum {
  *   n3    bytes 32-35  the price used
  *   m1    bytes 40-47  the bought value
  *   m2    bytes 48-55  the sold value
+ * @endverbatim
  */
 int32_t book_order(uint8_t *book, size_t book_len, const uint8_t *input, size_t input_len, uint8_t *answer,
                    size_t answer_len);
 
-/*
+/**
  * Trade-Result: a submitted trade is carried out, at the price of the result.
  *
- *   book    read and written; book_len is 64 times the number of records, 1 to 4,096
- *   input   read: one record, input_len is 64. Kind 34, id the trade's number 1..999,999,999,999,999, n1 price
- *           1..99,999,999, time 0..4,000,000,000; all else zero
- *   answer  written: one record, answer_len is 64
+ * @param book       read and written
+ * @param book_len   64 times the number of records, 1 to 4,096
+ * @param input      read: one record of kind 34
+ * @param input_len  64
+ * @param answer     written: one record
+ * @param answer_len 64
+ * @return the status
  *
  * Statuses, in the order of checking: BOOK_BAD_LENGTH, BOOK_BAD_BOOK, BOOK_UNSOUND, BOOK_BAD_INPUT,
  * BOOK_RESULT_NO_TRADE, BOOK_RESULT_NOT_SUBMITTED, BOOK_RESULT_NO_TAX, BOOK_RESULT_NO_RATE, BOOK_OVER_LIMIT (the
@@ -199,14 +368,14 @@ int32_t book_order(uint8_t *book, size_t book_len, const uint8_t *input, size_t 
  * On BOOK_DONE these rows changed:
  * - the trade: status 3, n3 the price, m1 the commission, m2 the tax, and the result's time
  * - each lot that was closed in part: m1 what is left of it. A lot that was closed became a free record
- * - the summary of the account and symbol: m1 more by a buy's shares, or less by a sell's, even where its sign changes.
- *   At zero it became a free record
+ * - the summary of the account and symbol: m1 more by a buy's shares, or less by a sell's, even where its sign
+ *   changes. At zero it became a free record
  * - the account's broker: n1 more by one trade, m1 by the commission
  * - for a cash trade alone, the account: m1 more by the settlement
  * and these were added, in this order, on the lowest places that were free when the call began: places that this call
  * freed are not among them, nor do they count for BOOK_NO_ROOM.
- * - for each lot that was closed or closed in part, in the order of closing, a lot history: id the lot's number, m2 the
- *   trade's, n1 and n2 the lot's shares before and after
+ * - for each lot that was closed or closed in part, in the order of closing, a lot history: id the lot's number, m2
+ *   the trade's, n1 and n2 the lot's shares before and after
  * - where shares are left over, a lot history of the new lot: id and m2 the trade's number, n1 0, n2 the lot's shares;
  *   and the lot: number, account and symbol of the trade, the result's price and time, m1 the shares, negative for a
  *   sell
@@ -216,12 +385,14 @@ int32_t book_order(uint8_t *book, size_t book_len, const uint8_t *input, size_t 
  * - for a cash trade alone, the cash row: the trade's number, m1 the same amount and the result's time
  * The book is sound again, and no other byte of it changed. The answer is zeros but for these fields:
  *
+ * @verbatim
  *   kind   byte 0       34
  *   party  bytes 4-7    the account
  *   id     bytes 8-15   the trade's number
  *          bytes 16-23  the tax, little-endian, where a row has its symbol
  *   m1     bytes 40-47  the account's balance, signed, as it is now
  *   m2     bytes 48-55  the settlement, signed
+ * @endverbatim
  */
 int32_t book_result(uint8_t *book, size_t book_len, const uint8_t *input, size_t input_len, uint8_t *answer,
                     size_t answer_len);
@@ -229,10 +400,13 @@ int32_t book_result(uint8_t *book, size_t book_len, const uint8_t *input, size_t
 /*
  * Market-Feed: new prices. Entries apply in turn, all of them or none.
  *
- *   book    read and written; book_len is 64 times the number of records, 1 to 4,096
- *   input   read: 1 to 20 records, input_len 64 times that. In each: kind 35, symbol, n1 price 1..99,999,999,
- *           n2 shares 1..999,999, time 0..4,000,000,000; all else zero
- *   answer  written: one record, answer_len is 64
+ * @param book       read and written
+ * @param book_len   64 times the number of records, 1 to 4,096
+ * @param input      read: 1 to 20 records of kind 35
+ * @param input_len  64 times their number
+ * @param answer     written: one record
+ * @param answer_len 64
+ * @return the status
  *
  * Statuses, in the order of checking: BOOK_BAD_LENGTH, BOOK_BAD_BOOK, BOOK_UNSOUND, BOOK_BAD_INPUT (any entry),
  * BOOK_FEED_NO_SECURITY (any entry), BOOK_OVER_LIMIT (a volume above 999,999,999,999), BOOK_NO_ROOM, BOOK_DONE.
@@ -247,13 +421,16 @@ int32_t book_result(uint8_t *book, size_t book_len, const uint8_t *input, size_t
 int32_t book_feed(uint8_t *book, size_t book_len, const uint8_t *input, size_t input_len, uint8_t *answer,
                   size_t answer_len);
 
-/*
+/**
  * Trade-Lookup: trades by their numbers.
  *
- *   book    read only; book_len is 64 times the number of records, 1 to 4,096
- *   input   read: 1 to 20 records, input_len 64 times that. In each: kind 36, id a trade's number,
- *           1..999,999,999,999,999; all else zero. A number may come again
- *   answer  written: two records for each of the input, so answer_len is 2 times input_len
+ * @param book       read only
+ * @param book_len   64 times the number of records, 1 to 4,096
+ * @param input      read: 1 to 20 records of kind 36; a number may come again
+ * @param input_len  64 times their number
+ * @param answer     written: two records for each of the input
+ * @param answer_len 2 times input_len
+ * @return the status
  *
  * Statuses, in the order of checking: BOOK_BAD_LENGTH, BOOK_BAD_BOOK, BOOK_UNSOUND, BOOK_BAD_INPUT (any record),
  * BOOK_LOOKUP_NO_TRADE (any record), BOOK_DONE.
@@ -263,6 +440,8 @@ int32_t book_feed(uint8_t *book, size_t book_len, const uint8_t *input, size_t i
  */
 int32_t book_lookup(const uint8_t *book, size_t book_len, const uint8_t *input, size_t input_len, uint8_t *answer,
                     size_t answer_len);
+
+/* Here ends what cffi reads. */
 
 #ifdef __cplusplus
 }
