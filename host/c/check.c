@@ -51,6 +51,11 @@ unsigned long passed, failed;
 /* The name of the sample that is running. */
 static const char *running = "";
 
+void begin_call(const char *name)
+{
+    running = name;
+}
+
 const struct call *call_of(uint32_t kind)
 {
     size_t n;
@@ -153,9 +158,9 @@ int check(const struct sample *sample, uint64_t seed, const char *name)
     place(book, &dice, sample->book, sample->book_length, sample->call->only_reads);
     place(input, &dice, sample->input, sample->input_length, 1);
     place(answer, &dice, sample->answer, sample->answer_length, 0);
-    running = name;
+    begin_call(name);
     status = sample->call->run(book->bytes, book->length, input->bytes, input->length, answer->bytes, answer->length);
-    running = "between the calls";
+    begin_call("between the calls");
     good = as_expected(name, sample, status, areas);
     if (good)
         passed++;

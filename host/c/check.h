@@ -38,8 +38,9 @@ int check(const struct sample *sample, uint64_t seed, const char *name);
 /* Counts one failure, and says what it is unless many have been said. */
 void fault(const char *name, const char *format, ...);
 
-/* Names the sample that is running, should it end the program. */
+/* Names what is running, should it end the program. */
 void watch_for_crashes(void);
+void begin_call(const char *name);
 
 /* The samples that are written out here, independent of any other program. */
 void check_written(void);

@@ -5,6 +5,7 @@
  *
  * A case that failed can be run alone: `cases SEED N N CALL | calls SEED`. Its areas are then placed as before.
  */
+#include "book_row.h"
 #include "check.h"
 
 #include <inttypes.h>
@@ -19,11 +20,6 @@ enum { KIND, NUMBER, BOOK, INPUT, ANSWER, STATUS, NUMBERS };
 /* How often each status of a call was expected of a case. */
 static unsigned long counts[MOST_CALLS][MOST_STATUSES];
 
-static uint32_t four(const uint8_t *bytes)
-{
-    return bytes[0] | (uint32_t)bytes[1] << 8 | (uint32_t)bytes[2] << 16 | (uint32_t)bytes[3] << 24;
-}
-
 /* Reads the numbers of the next case. Gives 0 at the end of the stream, or where it is broken, which is a failure. */
 static int next_case(uint32_t numbers[NUMBERS])
 {
@@ -32,7 +28,7 @@ static int next_case(uint32_t numbers[NUMBERS])
     if (found == 0 && feof(stdin))
         return 0;
     for (n = 0; n < NUMBERS && found == sizeof bytes; n++)
-        numbers[n] = four(bytes + 4 * n);
+        numbers[n] = book_get_u32(bytes + 4 * n);
     if (found == sizeof bytes && call_of(numbers[KIND]) != NULL && numbers[BOOK] <= MOST_BYTES &&
         numbers[INPUT] <= MOST_BYTES && numbers[ANSWER] <= MOST_BYTES)
         return 1;

@@ -16,9 +16,10 @@ void begin(void)
 
 void put(uint8_t *record, size_t at, size_t width, uint64_t value)
 {
-    size_t n;
-    for (n = 0; n < width; n++)
-        record[at + n] = (uint8_t)(value >> 8 * n);
+    if (width == 8)
+        book_put_u64(record + at, value);
+    else
+        book_put_u32(record + at, (uint32_t)value);
 }
 
 uint8_t *row_at(struct rows *rows, size_t place)

@@ -2,6 +2,7 @@
 #ifndef SAMPLES_H
 #define SAMPLES_H
 
+#include "book_row.h"
 #include "check.h"
 
 enum { RECORD = BOOK_RECORD_SIZE, TOO_MANY = BOOK_MOST_RECORDS + 1 };
@@ -16,6 +17,7 @@ extern struct rows book, input, book_after, answer_after;
 
 void begin(void);
 
+/* Writes a number of four bytes or eight. */
 void put(uint8_t *record, size_t at, size_t width, uint64_t value);
 uint8_t *row_at(struct rows *rows, size_t place);
 uint8_t *add(struct rows *rows, uint8_t kind);
@@ -32,8 +34,10 @@ void refused(const char *name, uint8_t kind, size_t answer_length, int32_t statu
    the function makes a good book and a good input of one record. */
 void refuses_lengths(uint8_t kind, void (*begin_good)(void), size_t most_inputs, size_t answers_for_each);
 
-/* The samples of orders and of results. */
+/* The samples of orders and of results; areas of no bytes and of more than there are; and what book_row.h offers. */
 void check_orders(void);
 void check_results(void);
+void check_areas(void);
+void check_rows(void);
 
 #endif

@@ -300,4 +300,6 @@ void check_written(void)
     check_largest();
     check_orders();
     check_results();
+    check_areas();
+    check_rows();
 }

@@ -13,7 +13,7 @@ enum { ACCOUNT = 1, BROKER = 21, CUSTOMER = 31, TAX_RATE = 41, TIER = 2, EXCHANG
 enum { MORNING = 34200, MINUTE = 60 };
 
 /* The account of the rules' figures: 10,000.00, and two lots of ABC. Prices and amounts are in cents. */
-static const struct row sample[] = {
+static const struct book_row sample[] = {
     {.kind = BOOK_KIND_BROKER, .party = BROKER, .n1 = 7, .m1 = 9000},
     {.kind = BOOK_KIND_CUSTOMER, .party = CUSTOMER, .type = TIER},
     {.kind = BOOK_KIND_TAX_RATE, .party = TAX_RATE, .n1 = 20000},
@@ -48,15 +48,22 @@ struct book {
 struct reply {
     int32_t status;
     size_t changed;
-    struct row answer;
+    struct book_row answer;
     int64_t tax; /* of an order or a result: it stands where a row has its symbol */
 };
 
 typedef int32_t book_call(uint8_t *, size_t, const uint8_t *, size_t, uint8_t *, size_t);
 
-static struct row find(const struct book *book, uint8_t kind, uint64_t id, uint32_t party)
+/* The first row of this kind, id and party, or a row of zeros. */
+static struct book_row find(const struct book *book, uint8_t kind, uint64_t id, uint32_t party)
 {
-    return find_row(book->bytes, sizeof book->bytes, kind, id, party);
+    size_t at;
+    for (at = 0; at < sizeof book->bytes; at += BOOK_RECORD_SIZE) {
+        struct book_row row = book_read_row(book->bytes + at);
+        if (row.kind == kind && row.id == id && row.party == party)
+            return row;
+    }
+    return (struct book_row){0};
 }
 
 static int64_t balance(const struct book *book)
@@ -66,7 +73,7 @@ static int64_t balance(const struct book *book)
 
 static void say_status(const char *name, int32_t status)
 {
-    printf("   %s answered %" PRId32 ": %s\n", name, status, meaning(status));
+    printf("   %s answered %" PRId32 ": %s\n", name, status, book_status_text(status));
 }
 
 static void open_book(struct book *book)
@@ -75,7 +82,7 @@ static void open_book(struct book *book)
     memset(book, 0, sizeof *book);
     printf("The sample book has %d rows and %d free places:\n", (int)SAMPLE_ROWS, (int)(RECORDS - SAMPLE_ROWS));
     for (n = 0; n < SAMPLE_ROWS; n++) {
-        write_row(book->bytes + n * BOOK_RECORD_SIZE, &sample[n]);
+        book_write_row(book->bytes + n * BOOK_RECORD_SIZE, &sample[n]);
         printf("   place %2zu  ", n);
         say_row(&sample[n]);
     }
@@ -83,24 +90,24 @@ static void open_book(struct book *book)
 }
 
 /* Has one call of one input record, and prints its status. */
-static struct reply run(struct book *book, const char *name, book_call *call, const struct row *asked)
+static struct reply run(struct book *book, const char *name, book_call *call, const struct book_row *asked)
 {
     struct book before = *book;
     uint8_t input[BOOK_RECORD_SIZE], answer[BOOK_RECORD_SIZE] = {0};
     struct reply reply;
-    write_row(input, asked);
+    book_write_row(input, asked);
     reply.status = call(book->bytes, sizeof book->bytes, input, sizeof input, answer, sizeof answer);
     say_status(name, reply.status);
     reply.changed = say_changes(before.bytes, book->bytes, sizeof book->bytes);
-    reply.answer = read_row(answer);
-    reply.tax = (int64_t)get(answer, BOOK_AT_SYMBOL, 8);
+    reply.answer = book_read_row(answer);
+    reply.tax = book_row_tax(&reply.answer);
     return reply;
 }
 
-static struct reply order(struct book *book, const struct row *asked)
+static struct reply order(struct book *book, const struct book_row *asked)
 {
     struct reply reply = run(book, "book_order", book_order, asked);
-    const struct row *answer = &reply.answer;
+    const struct book_row *answer = &reply.answer;
     if (reply.status != BOOK_DONE)
         return reply;
     printf("   answer: trade %" PRIu64 ", price %s, charge %s, commission %s %%; ", answer->id, MONEY(answer->n3),
@@ -115,7 +122,7 @@ static struct reply order(struct book *book, const struct row *asked)
 
 static struct reply result(struct book *book, uint64_t trade, int32_t price, uint32_t time)
 {
-    const struct row asked = {.kind = BOOK_KIND_RESULT, .id = trade, .n1 = price, .time = time};
+    const struct book_row asked = {.kind = BOOK_KIND_RESULT, .id = trade, .n1 = price, .time = time};
     int64_t before = balance(book);
     struct reply reply = run(book, "book_result", book_result, &asked);
     if (reply.status == BOOK_DONE)
@@ -125,7 +132,7 @@ static struct reply result(struct book *book, uint64_t trade, int32_t price, uin
     return reply;
 }
 
-static struct reply feed(struct book *book, const struct row *asked)
+static struct reply feed(struct book *book, const struct book_row *asked)
 {
     struct reply reply = run(book, "book_feed", book_feed, asked);
     if (reply.status == BOOK_DONE)
@@ -134,17 +141,17 @@ static struct reply feed(struct book *book, const struct row *asked)
 }
 
 /* Looks two trades up, and gives the status. The settlements are zeros where the trade has none. */
-static int32_t look_up(const struct book *book, const uint64_t trades[2], struct row rows[4])
+static int32_t look_up(const struct book *book, const uint64_t trades[2], struct book_row rows[4])
 {
     uint8_t input[2 * BOOK_RECORD_SIZE], answer[4 * BOOK_RECORD_SIZE] = {0};
     int32_t status;
     size_t n;
     for (n = 0; n < 2; n++)
-        write_row(input + n * BOOK_RECORD_SIZE, &(struct row){.kind = BOOK_KIND_LOOKUP, .id = trades[n]});
+        book_write_row(input + n * BOOK_RECORD_SIZE, &(struct book_row){.kind = BOOK_KIND_LOOKUP, .id = trades[n]});
     status = book_lookup(book->bytes, sizeof book->bytes, input, sizeof input, answer, sizeof answer);
     say_status("book_lookup", status);
     for (n = 0; n < 4; n++) {
-        rows[n] = read_row(answer + n * BOOK_RECORD_SIZE);
+        rows[n] = book_read_row(answer + n * BOOK_RECORD_SIZE);
         if (status != BOOK_DONE)
             continue;
         printf("   answer: ");
@@ -182,28 +189,30 @@ static int run_day(struct book *book)
 {
     static const uint64_t looked_up[] = {12, 14};
     struct reply sell, buy, stop, fence, prices, sold, bought;
-    struct row seen[4];
+    struct book_row seen[4];
     int32_t found;
     int faults = 0;
 
     printf("\n1. Order: account 1 sells 120 ABC at the market, in cash.\n");
-    sell = order(book, &(struct row){.kind = BOOK_KIND_ORDER, .type = BOOK_TMS, .flags = BOOK_FLAG_CASH,
-                                     .party = ACCOUNT, .symbol = "ABC", .n1 = 120, .time = MORNING});
+    sell = order(book, &(struct book_row){.kind = BOOK_KIND_ORDER, .type = BOOK_TMS, .flags = BOOK_FLAG_CASH,
+                                          .party = ACCOUNT, .symbol = "ABC", .n1 = 120, .time = MORNING});
     printf("\n2. Order: account 1 buys 40 ABC if the price falls to 29.00, in cash. It waits.\n");
-    buy = order(book, &(struct row){.kind = BOOK_KIND_ORDER, .type = BOOK_TLB, .flags = BOOK_FLAG_CASH,
-                                    .party = ACCOUNT, .symbol = "ABC", .n1 = 40, .n2 = 2900, .time = MORNING + MINUTE});
-    printf("\n3. Order: account 1 sells 30 ABC if the price falls to 20.00, a stop loss. It waits, and is still waiting "
-           "in the evening.\n");
-    stop = order(book, &(struct row){.kind = BOOK_KIND_ORDER, .type = BOOK_TSL, .party = ACCOUNT, .symbol = "ABC",
-                                     .n1 = 30, .n2 = 2000, .time = MORNING + 2 * MINUTE});
-    printf("\n4. Order with the symbol ABCDEFGH: its eighth byte, the fence, must be zero and is a letter. It is refused.\n");
-    fence = order(book, &(struct row){.kind = BOOK_KIND_ORDER, .type = BOOK_TMS, .party = ACCOUNT,
-                                      .symbol = "ABCDEFGH", .n1 = 10, .time = MORNING + 3 * MINUTE});
+    buy = order(book, &(struct book_row){.kind = BOOK_KIND_ORDER, .type = BOOK_TLB, .flags = BOOK_FLAG_CASH,
+                                         .party = ACCOUNT, .symbol = "ABC", .n1 = 40, .n2 = 2900,
+                                         .time = MORNING + MINUTE});
+    printf("\n3. Order: account 1 sells 30 ABC if the price falls to 20.00, a stop loss. It waits, and is still "
+           "waiting in the evening.\n");
+    stop = order(book, &(struct book_row){.kind = BOOK_KIND_ORDER, .type = BOOK_TSL, .party = ACCOUNT, .symbol = "ABC",
+                                          .n1 = 30, .n2 = 2000, .time = MORNING + 2 * MINUTE});
+    printf("\n4. Order with the symbol ABCDEFGH: its eighth byte, the fence, must be zero and is a letter. It is "
+           "refused.\n");
+    fence = order(book, &(struct book_row){.kind = BOOK_KIND_ORDER, .type = BOOK_TMS, .party = ACCOUNT,
+                                           .symbol = "ABCDEFGH", .n1 = 10, .time = MORNING + 3 * MINUTE});
     printf("\n5. Result: the sell, trade 12, is carried out at 30.00. The oldest lots go first.\n");
     sold = result(book, 12, 3000, MORNING + 4 * MINUTE);
     printf("\n6. Feed: 500 ABC were traded at 28.90. That submits the buy, whose bid is 29.00.\n");
-    prices = feed(book, &(struct row){.kind = BOOK_KIND_FEED, .symbol = "ABC", .n1 = 2890, .n2 = 500,
-                                      .time = MORNING + 5 * MINUTE});
+    prices = feed(book, &(struct book_row){.kind = BOOK_KIND_FEED, .symbol = "ABC", .n1 = 2890, .n2 = 500,
+                                           .time = MORNING + 5 * MINUTE});
     printf("\n7. Result: the buy, trade 13, is carried out at 28.90.\n");
     bought = result(book, 13, 2890, MORNING + 6 * MINUTE);
     printf("\n8. Lookup of trades 12 and 14, each with its settlement.\n");

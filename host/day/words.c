@@ -25,43 +25,6 @@ const char *decimal(int64_t number, int decimals, char text[TEXT])
     return at;
 }
 
-const char *meaning(int32_t status)
-{
-    switch (status) {
-    case BOOK_DONE: return "done";
-    case BOOK_BAD_LENGTH: return "input or answer area has the wrong length";
-    case BOOK_BAD_BOOK: return "book length is 0, no multiple of 64, or over 4,096 records";
-    case BOOK_UNSOUND: return "the book is not sound";
-    case BOOK_BAD_INPUT: return "an input field breaks its rule";
-    case BOOK_ORDER_NO_ACCOUNT: return "no such account";
-    case BOOK_ORDER_NO_SECURITY: return "no such security";
-    case BOOK_ORDER_NO_TAX:
-    case BOOK_RESULT_NO_TAX: return "gain and tax status 1 or 2, yet tax is 0";
-    case BOOK_ORDER_NO_RATE:
-    case BOOK_RESULT_NO_RATE: return "rate 0 or no band";
-    case BOOK_ORDER_NO_CHARGE: return "charge 0 or no row";
-    case BOOK_RESULT_NO_TRADE: return "no such trade";
-    case BOOK_RESULT_NOT_SUBMITTED: return "the trade's status is not submitted";
-    case BOOK_FEED_NO_SECURITY: return "an entry's security is unknown";
-    case BOOK_LOOKUP_NO_TRADE: return "a trade is unknown";
-    case BOOK_OVER_LIMIT: return "a number would leave its range";
-    case BOOK_NO_ROOM: return "free places at entry are fewer than rows to add";
-    default: return "no status of this library";
-    }
-}
-
-static const char *type_word(uint8_t type)
-{
-    static const char *const words[] = {"", "market buy", "market sell", "limit buy", "limit sell", "stop loss"};
-    return type <= BOOK_TSL ? words[type] : "";
-}
-
-static const char *status_word(uint8_t status)
-{
-    static const char *const words[] = {"", "pending", "submitted", "completed"};
-    return status <= BOOK_CMPT ? words[status] : "";
-}
-
 /* A time of the book as a date. */
 static const char *date(uint32_t seconds, char text[TEXT])
 {
@@ -74,11 +37,11 @@ static const char *date(uint32_t seconds, char text[TEXT])
 
 #define DATE(seconds) date(seconds, (char[TEXT]){0})
 
-static void say_trade(const struct row *row)
+static void say_trade(const struct book_row *row)
 {
-    printf("trade %" PRIu64 ": %s of %s %s for account %" PRIu32 "%s%s, %s; ", row->id, type_word(row->type),
+    printf("trade %" PRIu64 ": %s of %s %s for account %" PRIu32 "%s%s, %s; ", row->id, book_type_name(row->type),
            COUNT(row->n1), row->symbol, row->party, row->flags & BOOK_FLAG_CASH ? ", cash" : "",
-           row->flags & BOOK_FLAG_LIFO ? ", LIFO" : "", status_word(row->status));
+           row->flags & BOOK_FLAG_LIFO ? ", LIFO" : "", book_trade_status_name(row->status));
     if (row->status == BOOK_CMPT)
         printf("price %s, charge %s, commission %s, tax %s\n", MONEY(row->n3), MONEY(row->n4), MONEY(row->m1),
                MONEY(row->m2));
@@ -86,7 +49,7 @@ static void say_trade(const struct row *row)
         printf("bid %s, charge %s, commission about %s\n", MONEY(row->n2), MONEY(row->n4), MONEY(row->m1));
 }
 
-void say_row(const struct row *row)
+void say_row(const struct book_row *row)
 {
     switch (row->kind) {
     case BOOK_KIND_BROKER:
@@ -108,19 +71,20 @@ void say_row(const struct row *row)
                COUNT(row->m1));
         break;
     case BOOK_KIND_BAND:
-        printf("commission of a %s, tier %d, exchange %d, %s to %s shares: %s %%\n", type_word(row->type), row->status,
-               row->flags, COUNT(row->n1), COUNT(row->n2), decimal(row->n3, 2, (char[TEXT]){0}));
+        printf("commission of a %s, tier %d, exchange %d, %s to %s shares: %s %%\n", book_type_name(row->type),
+               row->status, row->flags, COUNT(row->n1), COUNT(row->n2), decimal(row->n3, 2, (char[TEXT]){0}));
         break;
     case BOOK_KIND_CHARGE:
-        printf("charge of a %s, tier %d: %s\n", type_word(row->type), row->status, MONEY(row->n1));
+        printf("charge of a %s, tier %d: %s\n", book_type_name(row->type), row->status, MONEY(row->n1));
         break;
     case BOOK_KIND_TRADE: say_trade(row); break;
     case BOOK_KIND_REQUEST:
         printf("request of trade %" PRIu64 ": %s of %s %s at %s waits with broker %" PRIu32 "\n", row->id,
-               type_word(row->type), COUNT(row->n1), row->symbol, MONEY(row->n2), row->party);
+               book_type_name(row->type), COUNT(row->n1), row->symbol, MONEY(row->n2), row->party);
         break;
     case BOOK_KIND_HISTORY:
-        printf("history of trade %" PRIu64 ": %s on %s\n", row->id, status_word(row->status), DATE(row->time));
+        printf("history of trade %" PRIu64 ": %s on %s\n", row->id, book_trade_status_name(row->status),
+               DATE(row->time));
         break;
     case BOOK_KIND_LOT:
         printf("lot %" PRIu64 " of account %" PRIu32 ": %s %s at %s\n", row->id, row->party, COUNT(row->m1),
@@ -148,7 +112,7 @@ size_t say_changes(const uint8_t *before, const uint8_t *after, size_t length)
 {
     size_t at, changed = 0;
     for (at = 0; at < length; at += BOOK_RECORD_SIZE) {
-        struct row old = read_row(before + at), new = read_row(after + at);
+        struct book_row old = book_read_row(before + at), new = book_read_row(after + at);
         if (memcmp(before + at, after + at, BOOK_RECORD_SIZE) == 0)
             continue;
         changed++;

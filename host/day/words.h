@@ -1,8 +1,8 @@
-/* Rows and statuses in plain words. */
+/* Rows in plain words. */
 #ifndef WORDS_H
 #define WORDS_H
 
-#include "row.h"
+#include "book_row.h"
 
 enum { TEXT = 32 };
 
@@ -12,11 +12,8 @@ const char *decimal(int64_t number, int decimals, char text[TEXT]);
 #define MONEY(cents) decimal(cents, 2, (char[TEXT]){0})
 #define COUNT(number) decimal(number, 0, (char[TEXT]){0})
 
-/* What a call's status means. */
-const char *meaning(int32_t status);
-
 /* Prints what a row says, on one line. */
-void say_row(const struct row *row);
+void say_row(const struct book_row *row);
 
 /* Prints which rows came, went or changed, and gives their number. Places are counted from 0. */
 size_t say_changes(const uint8_t *before, const uint8_t *after, size_t length);
