@@ -1,17 +1,21 @@
 #!/usr/bin/env -S python3 -B
-"""Holds the binding in book.py to the cases of the program `cases` of second/, with every byte compared.
+"""Holds the package provedbook to the cases of the program `cases` of second/, with every byte compared.
 
 usage: check.py LIBRARY SEED COUNT <CASES
 
 LIBRARY is the shared object. It wants COUNT cases of each call. The last line is 'N passed, M failed'. A case that
 failed can be run alone: `cases SEED N N CALL | check.py LIBRARY SEED 0`, where 0 wants no number of cases.
 """
+import os
 import struct
 import sys
 from collections import Counter
 
-from book import CALLS, Library
+sys.path.insert(0, os.path.join(os.path.dirname(os.path.abspath(__file__)), "../../python"))
+from provedbook import KIND_FEED, KIND_LOOKUP, KIND_ORDER, KIND_RESULT, Library  # noqa: E402
 
+# Each call, by the kind of its input records.
+CALLS = {KIND_ORDER: "order", KIND_RESULT: "result", KIND_FEED: "feed", KIND_LOOKUP: "lookup"}
 NUMBERS = struct.Struct("<5Ii")
 MOST_SAID = 10
 
@@ -43,8 +47,7 @@ def differences(call, status, areas):
     return faults + ["the book"] * (book != book_after) + ["the answer"] * (answer != answer_after)
 
 
-def main(path, seed, count):
-    library = Library(path)
+def main(library, seed, count):
     passed, faults, reached = 0, [], {name: Counter() for name in CALLS.values()}
     try:
         for name, number, status, areas in cases(sys.stdin.buffer):
@@ -67,4 +70,4 @@ if __name__ == "__main__":
     if len(sys.argv) != 4 or not all(word.isdigit() for word in sys.argv[2:]):
         print(__doc__, file=sys.stderr)
         sys.exit(2)
-    sys.exit(main(sys.argv[1], *map(int, sys.argv[2:])))
+    sys.exit(main(Library(sys.argv[1]), *map(int, sys.argv[2:])))
