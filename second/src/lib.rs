@@ -4,6 +4,7 @@
 //! "01" in the comments is the page "Build scope and exact rules".
 
 pub mod calls;
+pub mod explain;
 pub mod features;
 pub mod figures;
 pub mod gen;
@@ -15,3 +16,4 @@ pub mod runs;
 pub mod slow;
 pub mod sound;
 pub mod tally;
+pub mod words;

@@ -88,7 +88,7 @@ fn s1(book: &[u8]) -> Result<(), Rule> {
 }
 
 /// The key of a row, in italics in 01: a row with the kind and the key fields alone.
-fn key(row: &Row) -> Row {
+pub(crate) fn key(row: &Row) -> Row {
     let mut key = Row {
         kind: row.kind,
         ..Row::default()
