@@ -127,6 +127,33 @@ static inline struct book_row book_read_row(const uint8_t *record)
     return row;
 }
 
+/** Makes a book of these rows, the places behind them free. Gives 1, or 0 if it is too short for them. */
+static inline int book_write_rows(uint8_t *book, size_t book_len, const struct book_row *rows, size_t count)
+{
+    size_t n;
+    if (count > book_len / BOOK_RECORD_SIZE)
+        return 0;
+    memset(book, 0, book_len);
+    for (n = 0; n < count; n++)
+        book_write_row(book + n * BOOK_RECORD_SIZE, &rows[n]);
+    return 1;
+}
+
+/**
+ * Has a call with this row run: `book_ask(book_order, book, sizeof book, &order, &answer)`. For book_order,
+ * book_result and book_feed, with one input record. Gives the status; the answer may be the row that was asked with.
+ */
+static inline int32_t book_ask(int32_t (*call)(uint8_t *, size_t, const uint8_t *, size_t, uint8_t *, size_t),
+                               uint8_t *book, size_t book_len, const struct book_row *asked, struct book_row *answer)
+{
+    uint8_t input[BOOK_RECORD_SIZE], output[BOOK_RECORD_SIZE];
+    int32_t status;
+    book_write_row(input, asked);
+    status = call(book, book_len, input, sizeof input, output, sizeof output);
+    *answer = book_read_row(output);
+    return status;
+}
+
 /** The tax in the answer of an order or a result: it is where a row has its symbol. */
 static inline int64_t book_row_tax(const struct book_row *answer)
 {

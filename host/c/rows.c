@@ -114,8 +114,25 @@ static void check_statuses(void)
     want(book_status_name(1)[0] == '\0', "a name for what is no status");
 }
 
+/* Rows as a book, and a call with rows: the feed takes the new price. */
+static void check_calls(void)
+{
+    static const struct book_row rows[] = {{.kind = BOOK_KIND_BROKER, .party = 7},
+                                           {.kind = BOOK_KIND_SECURITY, .symbol = "ABC", .type = 1, .n1 = 200}};
+    struct book_row row = {.kind = BOOK_KIND_FEED, .symbol = "ABC", .n1 = 210, .n2 = 5};
+    uint8_t bytes[3 * BOOK_RECORD_SIZE];
+    memset(bytes, 0x5a, sizeof bytes);
+    want(!book_write_rows(bytes, 2 * BOOK_RECORD_SIZE - 1, rows, 2) && bytes[0] == 0x5a, "rows that do not fit");
+    want(book_write_rows(bytes, sizeof bytes, rows, 2), "rows that fit");
+    want(book_read_row(bytes).party == 7 && book_read_row(bytes + 2 * BOOK_RECORD_SIZE).kind == 0, "rows of a book");
+    want(book_ask(book_feed, bytes, sizeof bytes, &row, &row) == BOOK_DONE, "a call with a row");
+    want(row.kind == BOOK_KIND_FEED && row.n1 == 1 && row.n2 == 0, "the answer of a call with a row");
+    want(book_read_row(bytes + BOOK_RECORD_SIZE).n1 == 210, "the book after a call with a row");
+}
+
 void check_rows(void)
 {
+    check_calls();
     check_round_trips();
     check_fields();
     check_numbers();
