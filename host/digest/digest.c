@@ -73,8 +73,8 @@ static int32_t made(enum call call, uint8_t *book, size_t book_len, const uint8_
     for (size_t i = 0; i < answer_len; i++)
         answer[i] = (uint8_t)(calls + i);
     int32_t status = CALL[call].call(book, book_len, input, input_len, answer, answer_len);
-    uint8_t said[5] = {(uint8_t)status, (uint8_t)((uint32_t)status >> 8), (uint8_t)((uint32_t)status >> 16),
-                       (uint8_t)((uint32_t)status >> 24), memcmp(before, book, book_len) != 0};
+    uint8_t said[5] = {[4] = memcmp(before, book, book_len) != 0};
+    book_put_u32(said, (uint32_t)status);
     sha256_add(&sum, said, sizeof said);
     sha256_add(&sum, answer, answer_len);
     if (said[4])
@@ -116,11 +116,8 @@ static void one_call(struct book *book)
     } else if (harm == 5)
         change_band(book);
     int32_t status = made(call, book->bytes, book->length, input, input_len, answer, answer_len);
-    if (call == ORDER && status == BOOK_DONE && answer[BOOK_AT_ID + 7] == 0) {
-        book->trades = 0;
-        for (size_t i = 0; i < 8; i++)
-            book->trades |= (uint64_t)answer[BOOK_AT_ID + i] << 8 * i;
-    }
+    if (call == ORDER && status == BOOK_DONE)
+        book->trades = book_get_u64(answer + BOOK_AT_ID);
 }
 
 static int print_counts(void)

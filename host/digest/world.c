@@ -31,12 +31,6 @@ int once_in(uint64_t times)
 
 /* ---- rows */
 
-static void put(uint8_t *row, size_t at, size_t width, uint64_t value)
-{
-    for (size_t i = 0; i < width; i++)
-        row[at + i] = (uint8_t)(value >> 8 * i);
-}
-
 /* The next free place of a new book, as a row of this kind, or NULL where there is none. */
 static uint8_t *add(const struct book *book, size_t *used, uint8_t kind)
 {
@@ -76,45 +70,45 @@ static void add_last_trade(const struct book *book, size_t *used)
     }
     trade[BOOK_AT_TYPE] = BOOK_TMB;
     trade[BOOK_AT_STATUS] = history[BOOK_AT_STATUS] = BOOK_SBMT;
-    put(trade, BOOK_AT_ID, 8, MOST_TRADE);
-    put(history, BOOK_AT_ID, 8, MOST_TRADE);
-    put(trade, BOOK_AT_PARTY, 4, 1);
+    book_put_u64(trade + BOOK_AT_ID, MOST_TRADE);
+    book_put_u64(history + BOOK_AT_ID, MOST_TRADE);
+    book_put_u32(trade + BOOK_AT_PARTY, 1);
     put_symbol(trade, 1);
-    put(trade, BOOK_AT_N1, 4, 100);
-    put(trade, BOOK_AT_N2, 4, 1000);
-    put(trade, BOOK_AT_N4, 4, 1);
+    book_put_u32(trade + BOOK_AT_N1, 100);
+    book_put_u32(trade + BOOK_AT_N2, 1000);
+    book_put_u32(trade + BOOK_AT_N4, 1);
 }
 
 static void add_parties(struct book *book, size_t *used)
 {
     uint8_t *row;
     for (uint64_t i = 1; i <= book->brokers && (row = add(book, used, BOOK_KIND_BROKER)); i++) {
-        put(row, BOOK_AT_PARTY, 4, i);
-        put(row, BOOK_AT_N1, 4, once_in(12) ? MOST_COUNT - drawn(0, 3) : drawn(0, 1000));
-        put(row, BOOK_AT_M1, 8, once_in(12) ? MOST_MONEY - drawn(0, 3000) : drawn(0, 1000000));
+        book_put_u32(row + BOOK_AT_PARTY, i);
+        book_put_u32(row + BOOK_AT_N1, once_in(12) ? MOST_COUNT - drawn(0, 3) : drawn(0, 1000));
+        book_put_u64(row + BOOK_AT_M1, once_in(12) ? MOST_MONEY - drawn(0, 3000) : drawn(0, 1000000));
     }
     for (uint64_t i = 1; i <= book->rates && (row = add(book, used, BOOK_KIND_TAX_RATE)); i++) {
-        put(row, BOOK_AT_PARTY, 4, i);
-        put(row, BOOK_AT_N1, 4, once_in(4) ? 0 : drawn(1, MOST_RATES / 2));
+        book_put_u32(row + BOOK_AT_PARTY, i);
+        book_put_u32(row + BOOK_AT_N1, once_in(4) ? 0 : drawn(1, MOST_RATES / 2));
     }
     for (uint64_t i = 1; i <= book->customers && (row = add(book, used, BOOK_KIND_CUSTOMER)); i++) {
-        put(row, BOOK_AT_PARTY, 4, i);
+        book_put_u32(row + BOOK_AT_PARTY, i);
         row[BOOK_AT_TYPE] = (uint8_t)drawn(1, 3);
         /* Two rates of at most half the sum that is allowed, or one, or none. */
         for (uint64_t n = 0, rate = drawn(0, book->rates); n < 2 && rate > n; n++) {
             if (!(row = add(book, used, BOOK_KIND_CUSTOMER_RATE)))
                 return;
-            put(row, BOOK_AT_PARTY, 4, i);
-            put(row, BOOK_AT_N1, 4, rate - n);
+            book_put_u32(row + BOOK_AT_PARTY, i);
+            book_put_u32(row + BOOK_AT_N1, rate - n);
         }
     }
     for (uint64_t i = 1; i <= book->accounts && (row = add(book, used, BOOK_KIND_ACCOUNT)); i++) {
         uint64_t balance = once_in(6) ? MOST_MONEY - drawn(0, 30000) : drawn(0, 100000000);
-        put(row, BOOK_AT_PARTY, 4, i);
+        book_put_u32(row + BOOK_AT_PARTY, i);
         row[BOOK_AT_TYPE] = (uint8_t)drawn(0, 2);
-        put(row, BOOK_AT_N1, 4, drawn(1, book->brokers));
-        put(row, BOOK_AT_N2, 4, drawn(1, book->customers));
-        put(row, BOOK_AT_M1, 8, once_in(2) ? balance : 0 - balance);
+        book_put_u32(row + BOOK_AT_N1, drawn(1, book->brokers));
+        book_put_u32(row + BOOK_AT_N2, drawn(1, book->customers));
+        book_put_u64(row + BOOK_AT_M1, once_in(2) ? balance : 0 - balance);
     }
 }
 
@@ -124,9 +118,9 @@ static void add_securities(struct book *book, size_t *used)
     for (uint64_t i = 1; i <= book->securities && (row = add(book, used, BOOK_KIND_SECURITY)); i++) {
         put_symbol(row, i);
         row[BOOK_AT_TYPE] = (uint8_t)drawn(1, book->exchanges);
-        put(row, BOOK_AT_N1, 4, once_in(8) ? drawn(1, MOST_PRICE) : drawn(1, 4000));
-        put(row, BOOK_AT_M1, 8, once_in(8) ? MOST_VOLUME - drawn(0, 5000) : drawn(0, 1000000));
-        put(row, BOOK_AT_TIME, 4, drawn(0, 4000000000));
+        book_put_u32(row + BOOK_AT_N1, once_in(8) ? drawn(1, MOST_PRICE) : drawn(1, 4000));
+        book_put_u64(row + BOOK_AT_M1, once_in(8) ? MOST_VOLUME - drawn(0, 5000) : drawn(0, 1000000));
+        book_put_u32(row + BOOK_AT_TIME, drawn(0, 4000000000));
     }
 }
 
@@ -138,7 +132,7 @@ static void add_terms(struct book *book, size_t *used)
             if (row) {
                 row[BOOK_AT_TYPE] = type;
                 row[BOOK_AT_STATUS] = tier;
-                put(row, BOOK_AT_N1, 4, once_in(8) ? 0 : drawn(1, 5000));
+                book_put_u32(row + BOOK_AT_N1, once_in(8) ? 0 : drawn(1, 5000));
             }
             for (uint64_t exchange = 1; exchange <= book->exchanges; exchange++) {
                 uint64_t middle = drawn(50, 5000);
@@ -146,16 +140,16 @@ static void add_terms(struct book *book, size_t *used)
                     row[BOOK_AT_TYPE] = type;
                     row[BOOK_AT_STATUS] = tier;
                     row[BOOK_AT_FLAGS] = (uint8_t)exchange;
-                    put(row, BOOK_AT_N1, 4, 1);
-                    put(row, BOOK_AT_N2, 4, middle);
-                    put(row, BOOK_AT_N3, 4, once_in(8) ? 0 : drawn(1, 10000));
+                    book_put_u32(row + BOOK_AT_N1, 1);
+                    book_put_u32(row + BOOK_AT_N2, middle);
+                    book_put_u32(row + BOOK_AT_N3, once_in(8) ? 0 : drawn(1, 10000));
                     if ((row = add(book, used, BOOK_KIND_BAND))) {
                         row[BOOK_AT_TYPE] = type;
                         row[BOOK_AT_STATUS] = tier;
                         row[BOOK_AT_FLAGS] = (uint8_t)exchange;
-                        put(row, BOOK_AT_N1, 4, middle + 1);
-                        put(row, BOOK_AT_N2, 4, MOST_SHARES);
-                        put(row, BOOK_AT_N3, 4, drawn(1, 100));
+                        book_put_u32(row + BOOK_AT_N1, middle + 1);
+                        book_put_u32(row + BOOK_AT_N2, MOST_SHARES);
+                        book_put_u32(row + BOOK_AT_N3, drawn(1, 100));
                     }
                 }
             }
@@ -201,7 +195,7 @@ void change_band(struct book *book)
     for (size_t n = 0; n < records; n++) {
         uint8_t *row = book->bytes + (at + n) % records * BOOK_RECORD_SIZE;
         if (row[BOOK_AT_KIND] == BOOK_KIND_BAND) {
-            put(row, BOOK_AT_N3, 4, rate);
+            book_put_u32(row + BOOK_AT_N3, rate);
             return;
         }
     }
@@ -234,36 +228,36 @@ static void order_input(const struct book *book, uint8_t *input)
     input[BOOK_AT_FLAGS] = (uint8_t)drawn(0, BOOK_FLAG_CASH | BOOK_FLAG_LIFO);
     if (once_in(8))
         input[BOOK_AT_FLAGS] |= BOOK_FLAG_ROLL_BACK;
-    put(input, BOOK_AT_PARTY, 4, some_of(book->accounts, 20));
+    book_put_u32(input + BOOK_AT_PARTY, some_of(book->accounts, 20));
     put_symbol(input, some_of(book->securities, 20));
-    put(input, BOOK_AT_N1, 4, some_shares());
+    book_put_u32(input + BOOK_AT_N1, some_shares());
     if (input[BOOK_AT_TYPE] > BOOK_TMS)
-        put(input, BOOK_AT_N2, 4, some_price());
-    put(input, BOOK_AT_TIME, 4, drawn(0, 4000000000));
+        book_put_u32(input + BOOK_AT_N2, some_price());
+    book_put_u32(input + BOOK_AT_TIME, drawn(0, 4000000000));
 }
 
 static void result_input(const struct book *book, uint8_t *input)
 {
     uint64_t recent = book->trades > 12 ? book->trades - 12 : 1;
     input[BOOK_AT_KIND] = BOOK_KIND_RESULT;
-    put(input, BOOK_AT_ID, 8, once_in(20) ? drawn(1, MOST_TRADE) : drawn(recent, recent + 12));
-    put(input, BOOK_AT_N1, 4, some_price());
-    put(input, BOOK_AT_TIME, 4, drawn(0, 4000000000));
+    book_put_u64(input + BOOK_AT_ID, once_in(20) ? drawn(1, MOST_TRADE) : drawn(recent, recent + 12));
+    book_put_u32(input + BOOK_AT_N1, some_price());
+    book_put_u32(input + BOOK_AT_TIME, drawn(0, 4000000000));
 }
 
 static void feed_entry(const struct book *book, uint8_t *input)
 {
     input[BOOK_AT_KIND] = BOOK_KIND_FEED;
     put_symbol(input, some_of(book->securities, 60));
-    put(input, BOOK_AT_N1, 4, some_price());
-    put(input, BOOK_AT_N2, 4, some_shares());
-    put(input, BOOK_AT_TIME, 4, drawn(0, 4000000000));
+    book_put_u32(input + BOOK_AT_N1, some_price());
+    book_put_u32(input + BOOK_AT_N2, some_shares());
+    book_put_u32(input + BOOK_AT_TIME, drawn(0, 4000000000));
 }
 
 static void lookup_entry(const struct book *book, uint8_t *input)
 {
     input[BOOK_AT_KIND] = BOOK_KIND_LOOKUP;
-    put(input, BOOK_AT_ID, 8, drawn(1, book->trades + once_in(30) + (book->trades == 0)));
+    book_put_u64(input + BOOK_AT_ID, drawn(1, book->trades + once_in(30) + (book->trades == 0)));
 }
 
 size_t make_input(enum call call, const struct book *book, uint8_t *input)

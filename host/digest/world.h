@@ -2,7 +2,7 @@
 #ifndef WORLD_H
 #define WORLD_H
 
-#include "book.h"
+#include "book_row.h"
 
 /* A number drawn from low to high. */
 uint64_t drawn(uint64_t low, uint64_t high);
