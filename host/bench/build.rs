@@ -9,7 +9,10 @@ fn archive(variable: &str, name: &str) -> String {
     let here = PathBuf::from(std::env::var("CARGO_MANIFEST_DIR").unwrap());
     let folder = match std::env::var(variable) {
         Ok(folder) => PathBuf::from(folder),
-        Err(_) => here.join(format!("../../target/lib/{}-unknown-linux-gnu", std::env::consts::ARCH)),
+        Err(_) => here.join(format!(
+            "../../target/lib/{}-unknown-linux-gnu",
+            std::env::consts::ARCH
+        )),
     };
     let library = folder.join(name);
     println!("cargo:rerun-if-changed={}", library.display());

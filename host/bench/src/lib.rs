@@ -1,5 +1,16 @@
 //! What the programs of the benchmark share.
 
+pub mod yardstick;
+
+/// The sizes of the books that are measured, each 8 times the one before.
+pub const SIZES: [usize; 3] = [64, 512, 4_096];
+
+/// What 8 times the records take, of times at the three sizes.
+pub fn growth([small, middle, large]: [f64; 3]) -> String {
+    let (first, second) = (middle / small, large / middle);
+    format!("512 records take {first:.1} times as long as 64, 4,096 take {second:.1} times as long as 512")
+}
+
 /// What many rounds of the same work took, in microseconds: nine of ten took longer than `low`, half of them longer
 /// than `median`, one of ten longer than `high`. As the work is the same, what lies between is the machine's noise.
 #[derive(Clone, Copy)]

@@ -1,0 +1,117 @@
+//! `yardstick [CASES]`: holds the yardstick to the second program, with CASES random results (else 20,000) on books of
+//! all sizes and with books that are broken in every way that `second::mutate` knows: the status, every byte of the
+//! answer and every byte of the book. Prints how often each status came; its last line is 'N passed, M failed'.
+
+use bench::rounds_asked;
+use bench::yardstick::Yardstick;
+use second::calls::Call;
+use second::rng::Rng;
+use second::sound::{self, Rule};
+use second::{features, gen, mutate};
+use std::collections::{BTreeMap, BTreeSet};
+
+const CASES: usize = 20_000;
+/// So many sound books are broken in each way.
+const BOOKS_EACH: u64 = 30;
+const MOST_SAID: u64 = 10;
+
+#[derive(Default)]
+struct Tally {
+    passed: u64,
+    failed: u64,
+}
+
+impl Tally {
+    fn count(&mut self, good: bool, what: impl Fn() -> String) {
+        if good {
+            self.passed += 1;
+            return;
+        }
+        self.failed += 1;
+        if self.failed <= MOST_SAID {
+            println!("the yardstick and the second program differ: {}", what());
+        }
+    }
+}
+
+/// Random results. Every status and every feature of an accepted result must come up.
+fn results(tally: &mut Tally, yardstick: &mut Yardstick, cases: usize) {
+    let mut met = BTreeMap::new();
+    let mut shown = BTreeSet::new();
+    for number in 0..cases as u64 {
+        let case = gen::any_case(&mut Rng::of(1, Call::Result.kind(), number), Call::Result);
+        let (mut book, mut answer) = (case.book.clone(), case.answer.clone());
+        let status = yardstick.result(&mut book, &case.input, &mut answer);
+        let (mut expected_book, mut expected_answer) = (case.book.clone(), case.answer);
+        let expected = second::calls::result(&mut expected_book, &case.input, &mut expected_answer);
+        let good = status == expected && book == expected_book && answer == expected_answer;
+        tally.count(good, || {
+            format!("case {number}: status {status}, expected {expected}")
+        });
+        let of_book = (yardstick.status(&case.book), sound::status(&case.book));
+        tally.count(of_book.0 == of_book.1, || {
+            format!("case {number}: the book's statuses are {of_book:?}")
+        });
+        *met.entry(expected).or_insert(0) += 1;
+        if expected == 0 {
+            let list = features::of(
+                Call::Result,
+                &case.book,
+                &expected_book,
+                &case.input,
+                &expected_answer,
+            );
+            shown.extend(list);
+        }
+    }
+    for status in Call::Result.statuses() {
+        let count = met.get(status).copied().unwrap_or(0);
+        println!("result, status {status:4}: {count}");
+        tally.count(count > 0, || format!("no case of status {status}"));
+    }
+    let wanted = features::WANTED
+        .iter()
+        .filter(|(call, _)| *call == Call::Result);
+    for name in wanted.flat_map(|(_, names)| *names) {
+        tally.count(shown.contains(name), || {
+            format!("no accepted result that {name}")
+        });
+    }
+}
+
+/// Books that are broken by each mutation.
+fn broken_books(tally: &mut Tally, yardstick: &mut Yardstick) {
+    let mut by_rule: BTreeMap<Rule, (usize, u64)> = BTreeMap::new();
+    for (at, mutation) in mutate::ALL.iter().enumerate() {
+        let mut broken = 0;
+        for number in 0..BOOKS_EACH {
+            let mut rng = Rng::of(2, at as u8, number);
+            let records = rng.between(18, 150) as usize;
+            let mut book = gen::book(&mut rng, records);
+            if mutate::apply(&mut rng, mutation, &mut book) {
+                broken += 1;
+                let statuses = (yardstick.status(&book), sound::status(&book));
+                tally.count(statuses == (-102, -102), || {
+                    format!("{}: {statuses:?}", mutation.name)
+                });
+            }
+        }
+        tally.count(broken > 0, || {
+            format!("no book was broken by: {}", mutation.name)
+        });
+        let (ways, books) = by_rule.entry(mutation.rule).or_default();
+        *ways += 1;
+        *books += broken;
+    }
+    for (rule, (ways, books)) in by_rule {
+        println!("{books} books broken in {rule:?}, in {ways} ways");
+    }
+}
+
+fn main() {
+    let (mut tally, mut yardstick) = (Tally::default(), Yardstick::default());
+    results(&mut tally, &mut yardstick, rounds_asked(CASES));
+    broken_books(&mut tally, &mut yardstick);
+    println!("{} passed, {} failed", tally.passed, tally.failed);
+    std::process::exit(i32::from(tally.failed > 0));
+}

@@ -1,0 +1,62 @@
+//! Keys, numbered in the order in which they are added, and found by open addressing.
+
+/// 2 to the 64 divided by the golden ratio, an odd number. The high bits of a key's product with it depend on all bits
+/// of the key: keys that rise by a step, and keys that differ in their upper half only, are spread alike.
+const SPREAD: u64 = 0x9E37_79B9_7F4A_7C15;
+
+#[derive(Default)]
+pub struct Table {
+    /// One more than a key's number, or 0 where none is. Their count is a power of two, and a half at least are 0.
+    slots: Vec<u16>,
+    shift: u32,
+    keys: Vec<u64>,
+}
+
+impl Table {
+    /// Forgets all keys and makes room for so many.
+    pub fn empty(&mut self, most: usize) {
+        let bits = (2 * most).max(2).next_power_of_two().trailing_zeros();
+        self.slots.clear();
+        self.slots.resize(1 << bits, 0);
+        self.shift = 64 - bits;
+        self.keys.clear();
+    }
+
+    pub fn len(&self) -> usize {
+        self.keys.len()
+    }
+
+    /// The slot where the search for a key begins.
+    #[inline(always)]
+    fn home(&self, key: u64) -> usize {
+        (key.wrapping_mul(SPREAD) >> self.shift) as usize
+    }
+
+    /// A key's number.
+    #[inline(always)]
+    pub fn find(&self, key: u64) -> Option<usize> {
+        let mut at = self.home(key);
+        loop {
+            let number = usize::from(self.slots[at]).checked_sub(1)?;
+            if self.keys[number] == key {
+                return Some(number);
+            }
+            at = (at + 1) & (self.slots.len() - 1);
+        }
+    }
+
+    /// Gives the key the next number; false if it has one already.
+    #[inline(always)]
+    pub fn add(&mut self, key: u64) -> bool {
+        let mut at = self.home(key);
+        while let Some(number) = usize::from(self.slots[at]).checked_sub(1) {
+            if self.keys[number] == key {
+                return false;
+            }
+            at = (at + 1) & (self.slots.len() - 1);
+        }
+        self.keys.push(key);
+        self.slots[at] = self.keys.len() as u16;
+        true
+    }
+}
