@@ -1,14 +1,15 @@
 //! `calls [ROUNDS]`: how long each call of libbook.a takes where it is accepted, by the book's size, beside a copy of
-//! the book and beside the second program, all in one run.
+//! the book, the second program and, for a result, the yardstick, all in one run.
 //!
 //! A size has twenty sound books, the same for all calls, and each book one input for each call. A round copies the
 //! books, each into an area of its own, and then makes the call on each of these copies in turn: so every round does
 //! the same work, and what its times differ by is the machine's noise. A round's time is the mean over the books.
 
-use bench::{rounds_asked, Spread};
+use bench::yardstick::Yardstick;
+use bench::{growth, rounds_asked, Spread, SIZES};
 use second::calls::{Call, MAX_ENTRIES};
 use second::gen::{self, Focus, Plan};
-use second::record::{bytes_of, rows_of, FLAG_ROLL_BACK, RECORD};
+use second::record::{bytes_of, rows_of, Row, FLAG_ROLL_BACK, RECORD, REQUEST, TLB, TSL};
 use second::rng::Rng;
 use std::hint::black_box;
 use std::time::Instant;
@@ -17,7 +18,15 @@ use std::time::Instant;
 mod library;
 use library::{Run, CALLS};
 
-const SIZES: [usize; 3] = [64, 512, 4_096];
+/// What is measured, the result last. A quiet feed submits nothing.
+const LINES: [(&str, Call); 5] = [
+    ("lookup", Call::Lookup),
+    (QUIET_FEED, Call::Feed),
+    ("feed", Call::Feed),
+    ("order", Call::Order),
+    ("result", Call::Result),
+];
+const QUIET_FEED: &str = "quiet feed";
 const BOOKS: usize = 20;
 const ROUNDS: usize = 101;
 /// How many inputs are tried on a book before another book is.
@@ -31,35 +40,59 @@ struct Case {
     changed: usize,
 }
 
-/// An input that the second program accepts on this book, if one is found soon. A feed or a lookup has as many records
-/// as may be; an order is not rolled back.
-fn accepted(rng: &mut Rng, call: Call, run: Run, book: &[u8]) -> Option<Case> {
-    let rows = rows_of(book);
+/// Whether no request waits that this entry of a feed would submit.
+fn submits_none(entry: &Row, rows: &[Row]) -> bool {
+    rows.iter().all(|row| {
+        let submits = match row.typ {
+            TLB | TSL => row.n2 >= entry.n1,
+            _ => row.n2 <= entry.n1,
+        };
+        row.kind != REQUEST || row.symbol != entry.symbol || !submits
+    })
+}
+
+/// An input for this line: a feed or a lookup has as many records as may be, an order is not rolled back.
+fn input_for(rng: &mut Rng, name: &str, call: Call, rows: &[Row]) -> Option<Vec<Row>> {
+    let mut input = Vec::new();
     for _ in 0..TRIES {
-        let mut input = gen::good_input(rng, call, &rows);
+        let more = gen::good_input(rng, call, rows);
+        input.extend(
+            more.into_iter()
+                .filter(|entry| name != QUIET_FEED || submits_none(entry, rows)),
+        );
         match call {
-            Call::Feed | Call::Lookup => {
-                while input.len() < MAX_ENTRIES {
-                    input.extend(gen::good_input(rng, call, &rows));
-                }
-                input.truncate(MAX_ENTRIES);
-            }
+            Call::Feed | Call::Lookup if input.len() < MAX_ENTRIES => continue,
+            Call::Feed | Call::Lookup => input.truncate(MAX_ENTRIES),
             Call::Order => input[0].flags &= !FLAG_ROLL_BACK,
             Call::Result => {}
         }
-        let input = bytes_of(&input);
+        return Some(input);
+    }
+    None
+}
+
+/// An input that the second program accepts on this book, if one is found soon.
+fn accepted(rng: &mut Rng, name: &str, call: Call, book: &[u8]) -> Option<Case> {
+    let rows = rows_of(book);
+    for _ in 0..TRIES {
+        let input = bytes_of(&input_for(rng, name, call, &rows)?);
         let mut answer = vec![0; call.answer_length(input.len())];
         let mut after = book.to_vec();
         if call.run(&mut after, &input, &mut answer) != 0 {
             continue;
         }
-        // The library does the same, byte for byte, or the times would be of different work.
-        let (mut ours, mut answered) = (book.to_vec(), vec![0; answer.len()]);
-        assert_eq!(run(&mut ours, &input, &mut answered), 0, "{}", call.name());
+        // The library and the yardstick do the same, byte for byte, or the times would be of different work.
+        let same = |run: &mut dyn FnMut(&mut [u8], &[u8], &mut [u8]) -> i32| {
+            let (mut ours, mut answered) = (book.to_vec(), vec![0; answer.len()]);
+            run(&mut ours, &input, &mut answered) == 0 && ours == after && answered == answer
+        };
         assert!(
-            ours == after && answered == answer,
-            "{}: the library and the second program differ",
-            call.name()
+            same(&mut library_run(call)),
+            "{name}: the library differs from the second program"
+        );
+        assert!(
+            call != Call::Result || same(&mut |a, b, c| Yardstick::default().result(a, b, c)),
+            "{name}: the yardstick differs from the second program"
         );
         let pairs = book.chunks(RECORD).zip(after.chunks(RECORD));
         return Some(Case {
@@ -71,7 +104,7 @@ fn accepted(rng: &mut Rng, call: Call, run: Run, book: &[u8]) -> Option<Case> {
     None
 }
 
-/// The books of a size, and for each call, in the order of CALLS, a case on each of them. An eighth of a book is free.
+/// The books of a size, and for each of LINES a case on each of them. An eighth of a book is free.
 fn cases(records: usize) -> (Vec<Vec<u8>>, Vec<Vec<Case>>) {
     let mut rng = Rng::new(records as u64);
     let plan = Plan {
@@ -81,26 +114,31 @@ fn cases(records: usize) -> (Vec<Vec<u8>>, Vec<Vec<Case>>) {
         submitted: 30,
         focus: Focus::Nothing,
     };
-    let (mut books, mut by_call) = (Vec::new(), Vec::new());
-    by_call.resize_with(CALLS.len(), Vec::new);
+    let (mut books, mut by_line) = (Vec::new(), Vec::new());
+    by_line.resize_with(LINES.len(), Vec::new);
     while books.len() < BOOKS {
         let book = gen::book_of(&mut rng, &plan);
-        let found: Option<Vec<Case>> = CALLS
+        let found: Option<Vec<Case>> = LINES
             .iter()
-            .map(|(call, run)| accepted(&mut rng, *call, *run, &book))
+            .map(|(name, call)| accepted(&mut rng, name, *call, &book))
             .collect();
         if let Some(found) = found {
             books.push(book);
-            for (list, case) in by_call.iter_mut().zip(found) {
+            for (list, case) in by_line.iter_mut().zip(found) {
                 list.push(case);
             }
         }
     }
-    (books, by_call)
+    (books, by_line)
 }
 
 /// The seconds that one book takes: to be copied, and to have the call made on its copy.
-fn round(run: Run, books: &[Vec<u8>], areas: &mut [Vec<u8>], cases: &mut [Case]) -> (f64, f64) {
+fn round(
+    mut run: impl FnMut(&mut [u8], &[u8], &mut [u8]) -> i32,
+    books: &[Vec<u8>],
+    areas: &mut [Vec<u8>],
+    cases: &mut [Case],
+) -> (f64, f64) {
     let start = Instant::now();
     for (area, book) in areas.iter_mut().zip(books) {
         area.copy_from_slice(black_box(book));
@@ -117,54 +155,132 @@ fn round(run: Run, books: &[Vec<u8>], areas: &mut [Vec<u8>], cases: &mut [Case])
     (each(start, copied), each(copied, ended))
 }
 
-/// The second program's call by the type that the library's has.
-fn second_run(call: Call) -> Run {
-    match call {
-        Call::Order => second::calls::order,
-        Call::Result => second::calls::result,
-        Call::Feed => second::calls::feed,
-        Call::Lookup => second::calls::lookup,
+fn library_run(call: Call) -> Run {
+    let (_, run) = CALLS.iter().find(|(other, _)| *other == call).unwrap();
+    *run
+}
+
+/// What a line of the table says.
+struct Line {
+    name: &'static str,
+    changed: usize,
+    copy: Spread,
+    proved: Spread,
+    yardstick: Option<Spread>,
+    second: Spread,
+}
+
+/// Measures what is to be measured at a size.
+fn lines(records: usize, rounds: usize) -> Vec<Line> {
+    let (books, mut by_line) = cases(records);
+    let mut areas = books.clone();
+    let mut yardstick = Yardstick::default();
+    let mut lines = Vec::new();
+    for ((name, call), cases) in LINES.into_iter().zip(&mut by_line) {
+        let [mut copy, mut proved, mut fast, mut second] = [const { Vec::new() }; 4];
+        // The first round of each warms the caches and is not counted.
+        for at in 0..=rounds {
+            let by_library = round(library_run(call), &books, &mut areas, cases);
+            let by_yardstick = (call == Call::Result).then(|| {
+                round(
+                    |a, b, c| yardstick.result(a, b, c),
+                    &books,
+                    &mut areas,
+                    cases,
+                )
+            });
+            let by_second = round(|a, b, c| call.run(a, b, c), &books, &mut areas, cases);
+            if at > 0 {
+                copy.push(by_library.0);
+                proved.push(by_library.1);
+                fast.extend(by_yardstick.map(|times| times.1));
+                second.push(by_second.1);
+            }
+        }
+        lines.push(Line {
+            name,
+            changed: cases.iter().map(|case| case.changed).sum(),
+            copy: Spread::of(copy),
+            proved: Spread::of(proved),
+            yardstick: (call == Call::Result).then(|| Spread::of(fast)),
+            second: Spread::of(second),
+        });
+    }
+    lines
+}
+
+impl Line {
+    fn print(&self, records: usize, result: f64) {
+        let ours = self.proved.median;
+        let (yardstick, to_yardstick) = match &self.yardstick {
+            Some(spread) => (spread.text(), format!("{:.2}", ours / spread.median)),
+            None => ("-".to_string(), "-".to_string()),
+        };
+        println!(
+            "{:10} {records:7} {:7.1}  {:24} {:30} {yardstick:28} {:33} {:11.1} {to_yardstick:>16} {:13.2} {:13.1}",
+            self.name,
+            self.changed as f64 / BOOKS as f64,
+            self.copy.text(),
+            self.proved.text(),
+            self.second.text(),
+            ours / self.copy.median,
+            ours / result,
+            self.second.median / ours
+        );
     }
 }
 
 fn main() {
     let rounds = rounds_asked(ROUNDS);
     println!("each call, accepted: {rounds} rounds over {BOOKS} sound books of a size, in microseconds a call;");
+    println!("the median of the rounds, and in brackets their 10th and 90th percentile; ratios of medians");
+    println!("'changed' is how many records of the book a call changes, the mean over the books; a quiet feed submits");
+    println!("nothing; the last but one column is the call beside the library's own result");
     println!(
-        "the median of the rounds, and in brackets their 10th and 90th percentile; ratios of medians"
+        "\n{:10} {:>7} {:>7}  {:24} {:30} {:28} {:33} {:>11} {:>16} {:>13} {:>13}",
+        "call",
+        "records",
+        "changed",
+        "copy",
+        "proved",
+        "yardstick",
+        "second",
+        "proved:copy",
+        "proved:yardstick",
+        "proved:result",
+        "second:proved"
     );
-    println!("'changed' is how many records of the book a call changes, the mean over the books");
-    println!(
-        "\n{:7} {:>7} {:>7}  {:24} {:30} {:33} {:>11} {:>13}",
-        "call", "records", "changed", "copy", "proved", "second", "proved:copy", "second:proved"
-    );
+    let mut of_sizes = Vec::new();
     for records in SIZES {
-        let (books, mut by_call) = cases(records);
-        let mut areas = books.clone();
-        for ((call, run), cases) in CALLS.iter().zip(&mut by_call) {
-            let (mut copy, mut ours, mut others) = (Vec::new(), Vec::new(), Vec::new());
-            // The first round of each warms the caches and is not counted.
-            for at in 0..=rounds {
-                let (copied, proved) = round(*run, &books, &mut areas, cases);
-                let (_, second) = round(second_run(*call), &books, &mut areas, cases);
-                if at > 0 {
-                    copy.push(copied);
-                    ours.push(proved);
-                    others.push(second);
-                }
-            }
-            let [copy, ours, others] = [copy, ours, others].map(Spread::of);
-            let changed: usize = cases.iter().map(|case| case.changed).sum();
-            println!(
-                "{:7} {records:7} {:7.1}  {:24} {:30} {:33} {:11.1} {:13.1}",
-                call.name(),
-                changed as f64 / BOOKS as f64,
-                copy.text(),
-                ours.text(),
-                others.text(),
-                ours.median / copy.median,
-                others.median / ours.median
-            );
+        let lines = lines(records, rounds);
+        let result = lines[LINES.len() - 1].proved.median;
+        for line in &lines {
+            line.print(records, result);
         }
+        of_sizes.push(lines);
+    }
+    println!();
+    for (at, (name, _)) in LINES.iter().enumerate() {
+        let medians = [0, 1, 2].map(|size: usize| of_sizes[size][at].proved.median);
+        println!("{name}, proved: {}", growth(medians));
+    }
+    let medians = [0, 1, 2].map(|size: usize| of_sizes[size][LINES.len() - 1].yardstick);
+    println!(
+        "result, yardstick: {}",
+        growth(medians.map(|spread| spread.unwrap().median))
+    );
+    for (lines, records) in of_sizes.iter().zip(SIZES) {
+        let of = |name| {
+            lines
+                .iter()
+                .find(|line| line.name == name)
+                .unwrap()
+                .proved
+                .median
+        };
+        println!(
+            "at {records} records a quiet feed takes {:.2} of a lookup",
+            of(QUIET_FEED) / of("lookup")
+        );
     }
 }
