@@ -82,16 +82,16 @@ fn accepted(rng: &mut Rng, name: &str, call: Call, book: &[u8]) -> Option<Case> 
             continue;
         }
         // The library and the yardstick do the same, byte for byte, or the times would be of different work.
-        let same = |run: &mut dyn FnMut(&mut [u8], &[u8], &mut [u8]) -> i32| {
+        let same = |run: Run| {
             let (mut ours, mut answered) = (book.to_vec(), vec![0; answer.len()]);
             run(&mut ours, &input, &mut answered) == 0 && ours == after && answered == answer
         };
         assert!(
-            same(&mut library_run(call)),
+            same(library_run(call)),
             "{name}: the library differs from the second program"
         );
         assert!(
-            call != Call::Result || same(&mut |a, b, c| Yardstick::default().result(a, b, c)),
+            call != Call::Result || same(|a, b, c| Yardstick::default().result(a, b, c)),
             "{name}: the yardstick differs from the second program"
         );
         let pairs = book.chunks(RECORD).zip(after.chunks(RECORD));

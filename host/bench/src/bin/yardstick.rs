@@ -1,10 +1,12 @@
-//! `yardstick [CASES]`: holds the yardstick to the second program, with CASES random results (else 20,000) on books of
-//! all sizes and with books that are broken in every way that `second::mutate` knows: the status, every byte of the
-//! answer and every byte of the book. Prints how often each status came; its last line is 'N passed, M failed'.
+//! `yardstick [CASES]`: holds the yardstick to the second program: the status, every byte of the answer and every byte of
+//! the book of CASES random results (else 20,000) on books of all sizes; and the status of books that are broken in every
+//! way that `second::mutate` knows, and of books with one field of a row of each kind set to the borders of all ranges.
+//! Prints how often each status came; its last line is 'N passed, M failed'.
 
 use bench::rounds_asked;
 use bench::yardstick::Yardstick;
 use second::calls::Call;
+use second::record::*;
 use second::rng::Rng;
 use second::sound::{self, Rule};
 use second::{features, gen, mutate};
@@ -13,7 +15,32 @@ use std::collections::{BTreeMap, BTreeSet};
 const CASES: usize = 20_000;
 /// So many sound books are broken in each way.
 const BOOKS_EACH: u64 = 30;
+/// So many sound books have the fields of their rows changed.
+const BOOKS_OF_FIELDS: u64 = 5;
 const MOST_SAID: u64 = 10;
+
+/// The ends of the ranges of the grid; a field is set to these, to what lies beside them, and to their negatives.
+const BORDERS: [u64; 19] = [
+    0,
+    1,
+    2,
+    3,
+    4,
+    5,
+    MAX_BAND_RATE as u64,
+    MAX_RATE as u64,
+    MAX_SHARES as u64,
+    MAX_PRICE as u64,
+    MAX_NUMBER as u64,
+    MAX_TIME as u64,
+    MAX_DUE_TIME as u64,
+    MAX_VOLUME,
+    MAX_FEE,
+    MAX_TRADE_NUMBER,
+    1 << 15,
+    1 << 31,
+    1 << 63,
+];
 
 #[derive(Default)]
 struct Tally {
@@ -108,10 +135,58 @@ fn broken_books(tally: &mut Tally, yardstick: &mut Yardstick) {
     }
 }
 
+/// Books with one field of one row changed: a row of each kind, all fields, all borders and broken symbols.
+fn fields(tally: &mut Tally, yardstick: &mut Yardstick) {
+    let (mut met, mut all_kinds) = (BTreeMap::new(), BTreeSet::new());
+    for number in 0..BOOKS_OF_FIELDS {
+        let mut rng = Rng::of(3, 0, number);
+        let records = rng.between(60, 120) as usize;
+        let mut book = gen::book(&mut rng, records);
+        let mut kinds = BTreeSet::new();
+        let rows: Vec<(usize, Row)> = rows_of(&book).into_iter().enumerate().collect();
+        for (place, row) in rows.into_iter().filter(|(_, row)| kinds.insert(row.kind)) {
+            for (field, first, width) in mutate::PLACES {
+                let mut values: Vec<[u8; 8]> = BORDERS
+                    .iter()
+                    .flat_map(|border| [*border, border + 1, border.wrapping_sub(1)])
+                    .flat_map(|value| [value, value.wrapping_neg()])
+                    .map(u64::to_le_bytes)
+                    .collect();
+                if field == Field::Symbol && row.symbol != [0; 8] {
+                    values.extend(
+                        gen::broken_symbols(row.symbol)
+                            .into_iter()
+                            .map(|(_, bad)| bad),
+                    );
+                }
+                values.sort();
+                values.dedup_by_key(|value| value[..width].to_vec());
+                let start = place * RECORD + first;
+                let good = book[start..start + width].to_vec();
+                for value in values {
+                    book[start..start + width].copy_from_slice(&value[..width]);
+                    let statuses = (yardstick.status(&book), sound::status(&book));
+                    tally.count(statuses.0 == statuses.1, || {
+                        format!("kind {}, {field:?} {value:?}: {statuses:?}", row.kind)
+                    });
+                    *met.entry(statuses.1).or_insert(0) += 1;
+                }
+                book[start..start + width].copy_from_slice(&good);
+            }
+        }
+        all_kinds.extend(kinds);
+    }
+    tally.count((0..=CASH).all(|kind| all_kinds.contains(&kind)), || {
+        format!("rows of these kinds alone were changed: {all_kinds:?}")
+    });
+    println!("statuses of books with one field changed, and how often: {met:?}");
+}
+
 fn main() {
     let (mut tally, mut yardstick) = (Tally::default(), Yardstick::default());
     results(&mut tally, &mut yardstick, rounds_asked(CASES));
     broken_books(&mut tally, &mut yardstick);
+    fields(&mut tally, &mut yardstick);
     println!("{} passed, {} failed", tally.passed, tally.failed);
     std::process::exit(i32::from(tally.failed > 0));
 }

@@ -1,11 +1,12 @@
-//! `sqlite [ROUNDS]`: how long a result takes by book_result and by SQLite in memory, with the statements of the
-//! standard and one transaction a result, on the same books.
+//! `sqlite [ROUNDS]`: how long a result takes by book_result, by the yardstick and by SQLite in memory, with the
+//! statements of the standard and one transaction a result, on the same books.
 //!
-//! A round posts the same list of results to a fresh copy of the book and to fresh tables that hold its rows; neither
-//! is made within the time that is measured, nor are the statements prepared. Afterwards every answer is compared, and
-//! the rows of the tables with those of the book, each as many times: both have done the same work.
+//! A round posts the same list of results to a fresh copy of the book for each of the first two, and to fresh tables that
+//! hold its rows; none is made within the time that is measured, nor are the statements prepared. Afterwards every answer
+//! is compared, and the rows of the tables with those of the book, each as many times: all have done the same work.
 
-use bench::{rounds_asked, Spread};
+use bench::yardstick::Yardstick;
+use bench::{rounds_asked, Spread, SIZES};
 use database::Database;
 use posting::Posting;
 use second::calls::{Call, BAD_INPUT, NO_ROOM};
@@ -26,7 +27,6 @@ mod workload;
 mod library;
 use library::{Run, CALLS};
 
-const SIZES: [usize; 3] = [64, 512, 4_096];
 const ROUNDS: usize = 21;
 /// About how many results a round posts at least.
 const RESULTS: usize = 500;
@@ -104,8 +104,8 @@ struct End {
     rows: Vec<Row>,
 }
 
-/// Posts the results by the library: the seconds of one of them, and the end.
-fn by_book(run: Run, work: &Workload) -> (f64, End) {
+/// Posts the results to a book: the seconds of one of them, and the end.
+fn by_book(mut run: impl FnMut(&mut [u8], &[u8], &mut [u8]) -> i32, work: &Workload) -> (f64, End) {
     let mut book = work.book.clone();
     let inputs: Vec<[u8; RECORD]> = work.results.iter().map(Row::write).collect();
     let mut answers = vec![[0; RECORD]; inputs.len()];
@@ -145,11 +145,12 @@ fn main() {
         .unwrap();
     compare(run);
     println!(
-        "a result by book_result and by SQLite {} in memory, one transaction each: {rounds} rounds, in microseconds a",
+        "a result by book_result, the yardstick and SQLite {} in memory, one transaction each: {rounds} rounds, in microseconds a",
         database::version()
     );
     println!("result: the median of the rounds, and in brackets their 10th and 90th percentile; ratios of medians");
-    println!("book_result checks the whole book for soundness in every call; SQLite checks its constraints alone");
+    println!("book_result and the yardstick check the whole book for soundness in every call; SQLite checks its constraints");
+    let mut yardstick = Yardstick::default();
     for records in SIZES {
         let work = workload::of(records);
         let (_, end) = by_book(run, &work);
@@ -164,14 +165,18 @@ fn main() {
         );
         // A short list is posted so often in a round that its time can be told from the clock's steps.
         let repeats = 1 + RESULTS / work.results.len();
-        let mut times = vec![Vec::new(); 1 + WAYS.len()];
+        let mut times = vec![Vec::new(); 2 + WAYS.len()];
         for at in 0..=rounds {
             let mut taken = vec![0.0; times.len()];
             for _ in 0..repeats {
-                let mut ends = vec![by_book(run, &work)];
+                let by_yardstick = by_book(|a, b, c| yardstick.result(a, b, c), &work);
+                let mut ends = vec![by_book(run, &work), by_yardstick];
                 ends.extend(WAYS.map(|(_, pragmas)| by_sqlite(pragmas, &work)));
                 for (sum, (seconds, reached)) in taken.iter_mut().zip(ends) {
-                    assert!(reached == end, "SQLite and the book end otherwise");
+                    assert!(
+                        reached == end,
+                        "the book, the yardstick and SQLite end otherwise"
+                    );
                     *sum += seconds / repeats as f64;
                 }
             }
@@ -182,15 +187,16 @@ fn main() {
                 }
             }
         }
-        let names = ["book_result"]
+        let names = ["book_result", "the yardstick"]
             .into_iter()
             .chain(WAYS.map(|(name, _)| name));
         let spreads: Vec<Spread> = times.into_iter().map(Spread::of).collect();
         for (name, spread) in names.zip(&spreads) {
             println!(
-                "  {name:28} {:28} {:6.3} of book_result",
+                "  {name:28} {:28} {:6.3} of book_result, which takes {:6.3} of it",
                 spread.text(),
-                spread.median / spreads[0].median
+                spread.median / spreads[0].median,
+                spreads[0].median / spread.median
             );
         }
     }
