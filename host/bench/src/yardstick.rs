@@ -10,7 +10,7 @@
 //! - "exactly where" is counted: if each settlement has its own completed trade, there are as many of the ones as of the
 //!   others exactly if no completed trade lacks one.
 //! - The tables are as large as the rows of a kind want, and the areas are kept from call to call: a call allocates
-//!   nothing once a book of the size was met.
+//!   nothing once a book of the size was met. No loop makes a list longer, so that where the lists lie is known before.
 #![forbid(unsafe_code)]
 
 mod grid;
@@ -18,13 +18,28 @@ mod result;
 mod sound;
 mod table;
 
+use second::record::MAX_RECORDS;
 use table::Table;
 
 /// The kinds are 1 to 16, and 0 is a free record's.
 const KINDS: usize = 17;
 
+/// The places of a kind's rows, rising.
+#[derive(Clone)]
+struct Places {
+    count: usize,
+    list: [u16; MAX_RECORDS],
+}
+
+impl Places {
+    #[inline(always)]
+    fn list(&self) -> &[u16] {
+        &self.list[..self.count]
+    }
+}
+
 /// What a trade is asked for by the rows that name it.
-#[derive(Clone, Copy)]
+#[derive(Clone, Copy, Default)]
 struct Trade {
     status: u8,
     cash: bool,
@@ -36,17 +51,19 @@ struct Trade {
 }
 
 /// The rows of one account and security: the summary and its lots.
-#[derive(Clone, Copy)]
+#[derive(Clone, Copy, Default)]
 struct Position {
     sum: i64,
     /// The number of its last lot, if it has one; `earlier_lot` has the others.
     last_lot: u16,
 }
 
-/// The areas that a call works in. Tables and lists number the rows of a kind from 0, by rising places.
+/// The areas that a call works in. Tables and lists number the rows of a kind from 0, by rising places. A list may be
+/// longer than what this book has of its rows.
 #[derive(Default)]
 pub struct Yardstick {
-    places: [Vec<u16>; KINDS],
+    /// Of each kind.
+    places: Vec<Places>,
     brokers: Table,
     customers: Table,
     tax_rates: Table,
@@ -59,6 +76,8 @@ pub struct Yardstick {
     bands: Vec<u64>,
     trades: Table,
     of_trade: Vec<Trade>,
+    /// How many trades have a status, without cash and with it.
+    trades_of: [[usize; 2]; 4],
     /// Of each trade: the amount of its settlement.
     amounts: Vec<u64>,
     /// By account and security.
@@ -68,6 +87,13 @@ pub struct Yardstick {
     earlier_lot: Vec<u16>,
     lot_histories: Table,
     walk: Vec<result::Lot>,
+}
+
+/// Makes a list at least so long.
+fn lengthen<T: Clone + Default>(list: &mut Vec<T>, length: usize) {
+    if list.len() < length {
+        list.resize(length, T::default());
+    }
 }
 
 /// Two numbers of rows as one key.

@@ -1,29 +1,31 @@
 //! Keys, numbered in the order in which they are added, and found by open addressing.
 
+use super::lengthen;
+
 /// 2 to the 64 divided by the golden ratio, an odd number. The high bits of a key's product with it depend on all bits
 /// of the key: keys that rise by a step, and keys that differ in their upper half only, are spread alike.
 const SPREAD: u64 = 0x9E37_79B9_7F4A_7C15;
 
 #[derive(Default)]
 pub struct Table {
-    /// One more than a key's number, or 0 where none is. Their count is a power of two, and a half at least are 0.
+    /// One more than a key's number, or 0 where none is. A power of two of them are in use, a quarter at most not 0.
     slots: Vec<u16>,
     shift: u32,
+    mask: usize,
     keys: Vec<u64>,
+    count: usize,
 }
 
 impl Table {
     /// Forgets all keys and makes room for so many.
     pub fn empty(&mut self, most: usize) {
-        let bits = (2 * most).max(2).next_power_of_two().trailing_zeros();
-        self.slots.clear();
-        self.slots.resize(1 << bits, 0);
-        self.shift = 64 - bits;
-        self.keys.clear();
-    }
-
-    pub fn len(&self) -> usize {
-        self.keys.len()
+        let size = (4 * most).max(2).next_power_of_two();
+        lengthen(&mut self.slots, size);
+        lengthen(&mut self.keys, most);
+        self.slots[..size].fill(0);
+        self.shift = 64 - size.trailing_zeros();
+        self.mask = size - 1;
+        self.count = 0;
     }
 
     /// The slot where the search for a key begins.
@@ -41,7 +43,7 @@ impl Table {
             if self.keys[number] == key {
                 return Some(number);
             }
-            at = (at + 1) & (self.slots.len() - 1);
+            at = (at + 1) & self.mask;
         }
     }
 
@@ -53,10 +55,11 @@ impl Table {
             if self.keys[number] == key {
                 return false;
             }
-            at = (at + 1) & (self.slots.len() - 1);
+            at = (at + 1) & self.mask;
         }
-        self.keys.push(key);
-        self.slots[at] = self.keys.len() as u16;
+        self.keys[self.count] = key;
+        self.count += 1;
+        self.slots[at] = self.count as u16;
         true
     }
 }
