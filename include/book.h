@@ -397,7 +397,7 @@ int32_t book_order(uint8_t *book, size_t book_len, const uint8_t *input, size_t 
 int32_t book_result(uint8_t *book, size_t book_len, const uint8_t *input, size_t input_len, uint8_t *answer,
                     size_t answer_len);
 
-/*
+/**
  * Market-Feed: new prices. Entries apply in turn, all of them or none.
  *
  * @param book       read and written

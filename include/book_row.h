@@ -10,65 +10,61 @@
 
 #include <string.h>
 
-/* From C++14 on a struct may say that its members are zero, and then an initializer may leave some out. */
-#if defined(__cplusplus) && __cplusplus >= 201402L
-#define BOOK_ROW_ZERO_ = 0
-#define BOOK_ROW_EMPTY_ = {}
-#else
-#define BOOK_ROW_ZERO_
-#define BOOK_ROW_EMPTY_
-#endif
-
 /**
  * A record, its fields in the order of their places. Which of them a kind uses, and what for, is the table in book.h.
  * Every value in its range fits: n1 to n5, m1 and m2 are signed here, since some kinds have them so.
  */
 struct book_row {
-    uint8_t kind BOOK_ROW_ZERO_;
-    uint8_t type BOOK_ROW_ZERO_;
-    uint8_t status BOOK_ROW_ZERO_;
-    uint8_t flags BOOK_ROW_ZERO_;
-    uint32_t party BOOK_ROW_ZERO_;
-    uint64_t id BOOK_ROW_ZERO_;
-    char symbol[9] BOOK_ROW_EMPTY_; /**< the eight bytes of the record, and an end */
-    int32_t n1 BOOK_ROW_ZERO_;
-    int32_t n2 BOOK_ROW_ZERO_;
-    int32_t n3 BOOK_ROW_ZERO_;
-    int32_t n4 BOOK_ROW_ZERO_;
-    int64_t m1 BOOK_ROW_ZERO_;
-    int64_t m2 BOOK_ROW_ZERO_;
-    uint32_t time BOOK_ROW_ZERO_;
-    int32_t n5 BOOK_ROW_ZERO_;
+#if defined(__cplusplus) && __cplusplus >= 201402L /* zero by themselves, so that an initializer may be short */
+    uint8_t kind = 0, type = 0, status = 0, flags = 0;
+    uint32_t party = 0;
+    uint64_t id = 0;
+    char symbol[9] = {};
+    int32_t n1 = 0, n2 = 0, n3 = 0, n4 = 0;
+    int64_t m1 = 0, m2 = 0;
+    uint32_t time = 0;
+    int32_t n5 = 0;
+#else
+    uint8_t kind, type, status, flags;
+    uint32_t party;
+    uint64_t id;
+    char symbol[9]; /**< the eight bytes of the record, and an end */
+    int32_t n1, n2, n3, n4;
+    int64_t m1, m2;
+    uint32_t time;
+    int32_t n5;
+#endif
 };
-
-#undef BOOK_ROW_ZERO_
-#undef BOOK_ROW_EMPTY_
 
 /** @name A number that begins at this byte, on any machine: `book_get_u32(record + BOOK_AT_PARTY)`. */
 /** @{ */
+/** A number of four bytes. */
 static inline uint32_t book_get_u32(const uint8_t *at)
 {
     return at[0] | (uint32_t)at[1] << 8 | (uint32_t)at[2] << 16 | (uint32_t)at[3] << 24;
 }
 
+/** A number of eight bytes. */
 static inline uint64_t book_get_u64(const uint8_t *at)
 {
     return book_get_u32(at) | (uint64_t)book_get_u32(at + 4) << 32;
 }
 
+/** A signed number of four bytes. */
 static inline int32_t book_get_i32(const uint8_t *at)
 {
     uint32_t number = book_get_u32(at);
     return number <= INT32_MAX ? (int32_t)number : -(int32_t)(UINT32_MAX - number) - 1;
 }
 
+/** A signed number of eight bytes. */
 static inline int64_t book_get_i64(const uint8_t *at)
 {
     uint64_t number = book_get_u64(at);
     return number <= INT64_MAX ? (int64_t)number : -(int64_t)(UINT64_MAX - number) - 1;
 }
 
-/** A signed number may be given, too: it is written as two's complement. */
+/** Writes four bytes. A signed number may be given, too: it is written as two's complement. */
 static inline void book_put_u32(uint8_t *at, uint32_t number)
 {
     size_t n;
@@ -76,7 +72,7 @@ static inline void book_put_u32(uint8_t *at, uint32_t number)
         at[n] = (uint8_t)(number >> 8 * n);
 }
 
-/** A signed number may be given, too: it is written as two's complement. */
+/** Writes eight bytes. A signed number may be given, too: it is written as two's complement. */
 static inline void book_put_u64(uint8_t *at, uint64_t number)
 {
     book_put_u32(at, (uint32_t)number);

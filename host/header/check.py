@@ -201,6 +201,14 @@ def check_texts(texts):
         want(names == expected and names, f"names of {what}: {names ^ expected}")
 
 
+def check_struct():
+    """The members of the struct are the same with their zeros, for C++14, and without."""
+    text = open(os.path.join(HERE, "../../include/book_row.h")).read()
+    with_zeros, without = re.search(r"201402L.*?\n(.*?)#else\n(.*?)#endif", text, re.DOTALL).groups()
+    members = re.sub(r" = (0|{})", "", with_zeros)
+    want(members == re.sub(r" /\*.*?\*/", "", without) and members != with_zeros, "the two forms of struct book_row")
+
+
 def check_cffi(header):
     """The part for cffi: constants that are plain numbers, the four calls, and no other line of the preprocessor."""
     part = header[header.index("/* What stands between"):header.index("/* Here ends what cffi reads")]
@@ -224,6 +232,7 @@ def main(path, book_check, texts):
     want(rules == [f"S{number}" for number in range(1, 11)], f"the rules {rules}")
     check_smallest(Library(path), book_check, found[2])
     check_texts(texts)
+    check_struct()
     check_cffi(header)
     print("\n".join(faults[:20]), end="\n" if faults else "")
     print(f"{passed} passed, {len(faults)} failed")

@@ -28,8 +28,8 @@ const STEPS: usize = 30;
 const RUNS: u64 = 10_000;
 const CASES_PER_RUN: u64 = 5;
 const MOST_SAID: u64 = 10;
-/// "No function takes more than 512 KiB of stack with all that it calls."
-const STACK: usize = 512 * 1024;
+/// BOOK_MOST_STACK of include/book.h.
+const STACK: usize = 256 * 1024;
 /// The kinds that stand for a sequence and a run, where a source of random numbers is for one kind of input records.
 const SEQUENCE: u8 = 0;
 const RUN: u8 = 1;
