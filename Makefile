@@ -8,7 +8,7 @@ PREFIX = /usr/local
 DESTDIR =
 OUT = target/install
 
-ARCHIVES = lib/libbook.a target/lib/$(shell uname -m)-unknown-linux-gnu/libbook.a target/staticlib/libbook.a
+ARCHIVES = lib/libbook.a target/lib/$(shell uname -m)-unknown-linux-gnu/libbook.a
 BOOK_DIR ?= $(patsubst %/,%,$(dir $(firstword $(wildcard $(ARCHIVES)) lib/)))
 ARCHIVE = $(BOOK_DIR)/libbook.a
 HEADERS = include/book.h include/book_row.h
