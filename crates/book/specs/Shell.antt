@@ -16,7 +16,7 @@ use Rattle.record.specs.Bytes.{Bytes}
 use Rattle.record.specs.Grid.{decode}
 use Rattle.record.specs.declared.row.Row.{Row}
 use Rattle.rules.specs.Rules.{feedInput, lookupInput, orderInput, resultInput}
-use Rattle.model.specs.Call.{Promise, Reply, either, isDone, lookupCall, mostInputs, refusalArea, replied, shell}
+use Rattle.model.specs.Call.{Promise, Reply, either, isDone, mostInputs, refusalArea, replied, run, shell}
 use Rattle.model.specs.Feed.{feed}
 use Rattle.model.specs.Lookup.{lookup}
 use Rattle.model.specs.Order.{order}
@@ -182,7 +182,7 @@ pub lookup-left : (b input a : List ℕ) {x : Bool} {s : Status} → Bytes b
     → (wholeRecords mostInputs (length input) && eqb (length a) (2 * length input)) ≡ true
     → x ≡ every lookupInput (rows input) → s ≡ opening x b → isDone s ≡ true
     → b ≡ bookLeft (lookup (rows b) (rows input)) b
-unfolding lookupCall replied bookLeft
+unfolding run replied bookLeft
 lookup-left b input a y e i p d =
     sym (lookup-keeps b input a y)
     ∙ ap (λ (r : Reply). r .book) (rw d at (replies (λ rs. lookup rs (rows input)) b a e i p))

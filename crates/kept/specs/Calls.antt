@@ -1,6 +1,6 @@
--- The calls on bytes: from any book, a call that is accepted leaves a sound one, S1 to S10, and one that is refused
--- leaves every byte of the book as found. The model's `lookup-keeps` and `roll-back-keeps` say that a lookup and an
--- order with roll back leave every byte, accepted or not. Assumes nothing.
+-- The calls on bytes: from any book, a call that is accepted leaves a sound one, S1 to S10. (Demand 1 is that one that
+-- is refused leaves every byte; the model's `lookup-keeps` and `roll-back-keeps` are that a lookup and an order with
+-- roll back do, accepted or not.) Assumes nothing.
 use mathlib.Core.Path.{_≡_, refl, ap, _∙_}
 use mathlib.Core.Bool.{Bool, true, false, _&&_, false≢true}
 use mathlib.Core.List.{List}
@@ -9,21 +9,16 @@ use native.Mathlib.Omega.{arith}
 use lib.Dec.{eqb, leb}
 use lib.ListN.{length}
 use borrow.Author.Tests.{eqb-true, leb-true}
-use Rattle.laws.specs.Search.{every}
 use Rattle.laws.specs.Tests.{and-left, and-right}
 use Rattle.record.specs.Grid.{decode}
 use Rattle.record.specs.declared.row.Row.{Row}
-use Rattle.rules.specs.Rules.{feedInput, lookupInput, orderInput, resultInput}
-use Rattle.model.specs.Call.{Reply, choose, feedCall, isDone, lookupCall, mostInputs, orderCall, replied, resultCall}
-use Rattle.model.specs.Call.{shell}
-use Rattle.model.specs.Feed.{feed}
-use Rattle.model.specs.Lookup.{lookup}
-use Rattle.model.specs.Order.{order}
+use Rattle.model.specs.Call.{Call, Reply, aFeed, aLookup, aResult, anOrder, choose, decideOf, fieldsOf, isDone}
+use Rattle.model.specs.Call.{lengthsOf, replied, run, shell}
 use Rattle.model.specs.Plan.{Outcome, pick, refused}
 use Rattle.model.specs.Result.{result}
 use Rattle.model.specs.Rows.{bytes, mostRecords, recordSize, rows, wholeRecords}
 use Rattle.model.specs.Sound.{sound}
-use Rattle.model.specs.Unposted.{lookup-rows, refusal-leaves}
+use Rattle.model.specs.Unposted.{lookup-rows}
 use Rattle.model.specs.declared.Status.the-variants.{BadBook, BadInput, BadLength, Unsound}
 use Rattle.shelf.specs.Rows.{length-rows}
 use Rattle.tables.specs.Found.{sound-s1}
@@ -101,92 +96,34 @@ module _ (b answer : List ℕ) where
               let left = leaves (omega arith) es ei d in
               rw d (written (decide (rows b) .rows) ew (left .0) (left .1))
 
-      shell-leaves : isDone (shell lengths inputs decide b answer .status) ≡ false
-          → shell lengths inputs decide b answer .book ≡ b
-      unfolding shell replied
-      shell-leaves = go lengths
-        where
-          o : Outcome
-          o = outcome (wholeRecords mostRecords (length b)) (sound (rows b)) inputs
-
-          go : (l : Bool)
-              → isDone (reply l (wholeRecords mostRecords (length b)) (sound (rows b)) inputs .status) ≡ false
-              → reply l (wholeRecords mostRecords (length b)) (sound (rows b)) inputs .book ≡ b
-          go true d = refusal-leaves o b answer d .0
-          go false d = refl
-
 -- ---- the calls
 result-length : (rs : List Row) (input : Row) → sound rs ≡ true → isDone (result rs input .status) ≡ true
     → length (result rs input .rows) ≡ length rs
 result-length rs input good done =
     ap length (result-writes rs input good (accepted-all rs input done)) ∙ puts-length (writes (postingOf rs input)) rs
 
-module _ (b input answer : List ℕ) where
-  abbrev one : Bool
-  one = eqb (length input) recordSize && eqb (length answer) recordSize
+-- each decision that is accepted leaves sound rows
+decision-leaves : (c : Call) (b input : List ℕ) → Leaves (fieldsOf c input) (rows b) (decideOf c input (rows b))
+decision-leaves anOrder b input few good right done =
+    (order-sound (rows b) (decode input) good right done, order-length (rows b) (decode input) done)
+decision-leaves aResult b input few good right done =
+    (result-sound (rows b) (decode input) few good right done, result-length (rows b) (decode input) good done)
+decision-leaves aFeed b input few good right done =
+    (feed-sound (rows b) (rows input) good right done, feed-length (rows b) (rows input))
+decision-leaves aLookup b input few good right done =
+    let same = lookup-rows (rows b) (rows input) in
+    (ap sound same ∙ good, ap length same)
 
-  abbrev fed : Bool
-  fed = wholeRecords mostInputs (length input) && eqb (length answer) recordSize
+-- "An accepted call leaves a sound book."
+pub call-leaves-sound : (c : Call) (b input answer : List ℕ) → isDone (run c b input answer .status) ≡ true
+    → SoundBytes (run c b input answer .book)
+unfolding run
+call-leaves-sound c b input answer =
+    shell-sound b answer (decideOf c input) (lengthsOf c (length input) (length answer)) (fieldsOf c input)
+    (decision-leaves c b input)
 
-  abbrev asked : Bool
-  asked = wholeRecords mostInputs (length input) && eqb (length answer) (2 * length input)
-
-  -- ---- an order
-  pub order-leaves-sound : isDone (orderCall b input answer .status) ≡ true
-      → SoundBytes (orderCall b input answer .book)
-  unfolding orderCall
-  order-leaves-sound =
-      let i = decode input in
-      shell-sound b answer (λ rs. order rs i) one (orderInput i)
-      (λ few good right done. (order-sound (rows b) i good right done, order-length (rows b) i done))
-
-  pub order-refused-leaves : isDone (orderCall b input answer .status) ≡ false → orderCall b input answer .book ≡ b
-  unfolding orderCall
-  order-refused-leaves =
-      let i = decode input in
-      shell-leaves b answer (λ rs. order rs i) one (orderInput i)
-
-  -- ---- a result
-  pub result-leaves-sound : isDone (resultCall b input answer .status) ≡ true
-      → SoundBytes (resultCall b input answer .book)
-  unfolding resultCall
-  result-leaves-sound =
-      let i = decode input in
-      shell-sound b answer (λ rs. result rs i) one (resultInput i)
-      (λ few good right done. (result-sound (rows b) i few good right done, result-length (rows b) i good done))
-
-  pub result-refused-leaves : isDone (resultCall b input answer .status) ≡ false → resultCall b input answer .book ≡ b
-  unfolding resultCall
-  result-refused-leaves =
-      let i = decode input in
-      shell-leaves b answer (λ rs. result rs i) one (resultInput i)
-
-  -- ---- a feed
-  pub feed-leaves-sound : isDone (feedCall b input answer .status) ≡ true → SoundBytes (feedCall b input answer .book)
-  unfolding feedCall
-  feed-leaves-sound =
-      let is = rows input in
-      shell-sound b answer (λ rs. feed rs is) fed (every feedInput is)
-      (λ few good right done. (feed-sound (rows b) is good right done, feed-length (rows b) is))
-
-  pub feed-refused-leaves : isDone (feedCall b input answer .status) ≡ false → feedCall b input answer .book ≡ b
-  unfolding feedCall
-  feed-refused-leaves =
-      let is = rows input in
-      shell-leaves b answer (λ rs. feed rs is) fed (every feedInput is)
-
-  -- ---- a lookup
-  pub lookup-leaves-sound : isDone (lookupCall b input answer .status) ≡ true
-      → SoundBytes (lookupCall b input answer .book)
-  unfolding lookupCall
-  lookup-leaves-sound =
-      let is = rows input in
-      let same = lookup-rows (rows b) is in
-      shell-sound b answer (λ rs. lookup rs is) asked (every lookupInput is)
-      (λ few good right done. (ap sound same ∙ good, ap length same))
-
-  pub lookup-refused-leaves : isDone (lookupCall b input answer .status) ≡ false → lookupCall b input answer .book ≡ b
-  unfolding lookupCall
-  lookup-refused-leaves =
-      let is = rows input in
-      shell-leaves b answer (λ rs. lookup rs is) asked (every lookupInput is)
+-- where the lengths are wrong nothing is read, and nothing is written
+pub uncalled : (c : Call) (b input answer : List ℕ) → lengthsOf c (length input) (length answer) ≡ false
+    → run c b input answer ≡ record { status = BadLength; answer = answer; book = b }
+unfolding run shell
+uncalled c b input answer e = rw e

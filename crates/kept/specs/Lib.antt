@@ -14,6 +14,7 @@ pub mod FeedSound
 pub mod ResultBase
 pub mod ResultEach
 pub mod ResultFresh
+pub mod Once
 pub mod ResultKeys
 pub mod ResultAfter
 pub mod ResultNames

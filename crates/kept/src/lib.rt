@@ -1,2 +1,1 @@
-// What holds of every run: an accepted call leaves a sound book, and a refused one leaves the book as found. Nothing runs
-// here: the theorems are in specs/.
+// What holds of every run: an accepted call leaves a sound book. Nothing runs here: the theorem is in specs/.

@@ -93,30 +93,45 @@ shell lengths inputs decide b answer =
 abbrev pub mostInputs : ℕ
 mostInputs = 20
 
-unfoldable pub orderCall : List ℕ → List ℕ → List ℕ → Reply
-orderCall b input answer =
-    let i = decode input in
-    shell (eqb (length input) recordSize && eqb (length answer) recordSize) (orderInput i) (λ rs. order rs i) b answer
+-- ---- the four calls, as data: each has its lengths, the rule of its input's fields, and its decision
+pub data Call : Type 0 where
+  anOrder aResult aFeed aLookup : Call
 
-unfoldable pub resultCall : List ℕ → List ℕ → List ℕ → Reply
-resultCall b input answer =
-    let i = decode input in
-    shell (eqb (length input) recordSize && eqb (length answer) recordSize) (resultInput i) (λ rs. result rs i) b answer
+-- the lengths of the input and of the answer area are those that the call takes
+abbrev pub lengthsOf : Call → ℕ → ℕ → Bool
+lengthsOf anOrder input answer = eqb input recordSize && eqb answer recordSize
+lengthsOf aResult input answer = eqb input recordSize && eqb answer recordSize
+lengthsOf aFeed input answer = wholeRecords mostInputs input && eqb answer recordSize
+lengthsOf aLookup input answer = wholeRecords mostInputs input && eqb answer (2 * input)
 
-unfoldable pub feedCall : List ℕ → List ℕ → List ℕ → Reply
-feedCall b input answer =
-    let is = rows input in
-    shell (wholeRecords mostInputs (length input)
-    && eqb (length answer) recordSize) (every feedInput is) (λ rs. feed rs is) b
-    answer
+abbrev pub fieldsOf : Call → List ℕ → Bool
+fieldsOf anOrder input = orderInput (decode input)
+fieldsOf aResult input = resultInput (decode input)
+fieldsOf aFeed input = every feedInput (rows input)
+fieldsOf aLookup input = every lookupInput (rows input)
 
-unfoldable pub lookupCall : List ℕ → List ℕ → List ℕ → Reply
-lookupCall b input answer =
-    let is = rows input in
-    shell (wholeRecords mostInputs (length input) && eqb (length answer) (2 * length input)) (every lookupInput is)
-    (λ rs. lookup rs is)
-    b
-    answer
+abbrev pub decideOf : Call → List ℕ → List Row → Outcome
+decideOf anOrder input rs = order rs (decode input)
+decideOf aResult input rs = result rs (decode input)
+decideOf aFeed input rs = feed rs (rows input)
+decideOf aLookup input rs = lookup rs (rows input)
+
+-- a call on a book, an input and an answer area
+unfoldable pub run : Call → List ℕ → List ℕ → List ℕ → Reply
+run c b input answer =
+    shell (lengthsOf c (length input) (length answer)) (fieldsOf c input) (decideOf c input) b answer
+
+abbrev pub orderCall : List ℕ → List ℕ → List ℕ → Reply
+orderCall b input answer = run anOrder b input answer
+
+abbrev pub resultCall : List ℕ → List ℕ → List ℕ → Reply
+resultCall b input answer = run aResult b input answer
+
+abbrev pub feedCall : List ℕ → List ℕ → List ℕ → Reply
+feedCall b input answer = run aFeed b input answer
+
+abbrev pub lookupCall : List ℕ → List ℕ → List ℕ → Reply
+lookupCall b input answer = run aLookup b input answer
 
 -- ---- what a call promises: the number returned, the book and the answer area as they are left
 pub record Promise (reply : Reply) (returned : ℤ) (book answer : List ℕ) : Type 0 where
@@ -130,19 +145,6 @@ pub one-answer : (reply : Reply) (n m : ℤ) (b c a d : List ℕ) → Promise re
 one-answer reply n m b c a d p q =
     (p .returns ∙ sym (q .returns), p .keeps ∙ sym (q .keeps), p .says ∙ sym (q .says))
 
-module _ (b input answer : List ℕ) (n m : ℤ) (c d e f : List ℕ) where
-  pub order-unique : Promise (orderCall b input answer) n c e → Promise (orderCall b input answer) m d f
-      → (n ≡ m) × (c ≡ d) × (e ≡ f)
-  order-unique p q = one-answer (orderCall b input answer) n m c d e f p q
-
-  pub result-unique : Promise (resultCall b input answer) n c e → Promise (resultCall b input answer) m d f
-      → (n ≡ m) × (c ≡ d) × (e ≡ f)
-  result-unique p q = one-answer (resultCall b input answer) n m c d e f p q
-
-  pub feed-unique : Promise (feedCall b input answer) n c e → Promise (feedCall b input answer) m d f
-      → (n ≡ m) × (c ≡ d) × (e ≡ f)
-  feed-unique p q = one-answer (feedCall b input answer) n m c d e f p q
-
-  pub lookup-unique : Promise (lookupCall b input answer) n c e → Promise (lookupCall b input answer) m d f
-      → (n ≡ m) × (c ≡ d) × (e ≡ f)
-  lookup-unique p q = one-answer (lookupCall b input answer) n m c d e f p q
+pub call-unique : (c : Call) (b input answer : List ℕ) (n m : ℤ) (k l d e : List ℕ)
+    → Promise (run c b input answer) n k d → Promise (run c b input answer) m l e → (n ≡ m) × (k ≡ l) × (d ≡ e)
+call-unique c b input answer = one-answer (run c b input answer)

@@ -17,6 +17,7 @@ use Rattle.rules.specs.Rules.{free, broker, customer, taxRate, customerRate, ac
 use Rattle.rules.specs.Rules.{request, tradeHistory, lot, summary, lotHistory, settlement, cash, orderInput}
 use Rattle.rules.specs.Rules.{resultInput, feedInput, lookupInput, fits}
 use Rattle.model.specs.Band.{bandRate}
+use Rattle.model.specs.Call as call
 use Rattle.model.specs.Call.{Reply, feedCall, lookupCall, orderCall, refusalArea, replied, resultCall, shell}
 use Rattle.model.specs.Feed.{applied, feed, submits, swept}
 use Rattle.model.specs.Lookup.{looked, lookup}
@@ -73,19 +74,19 @@ unfolding rulesOpened
 soundOpened rs = sound rs
 
 unfoldable pub orderOpened : List ℕ → List ℕ → List ℕ → Reply
-unfolding postingOpened order.nextNumber order.view order.posting order.plan order.finish order.order orderCall
+unfolding postingOpened order.nextNumber order.view order.posting order.plan order.finish order.order call.run
 orderOpened b i a = orderCall b i a
 
 unfoldable pub resultOpened : List ℕ → List ℕ → List ℕ → Reply
-unfolding postingOpened result.view result.figures result.posting result.plan result.finish result.result resultCall
+unfolding postingOpened result.view result.figures result.posting result.plan result.finish result.result call.run
 resultOpened b i a = resultCall b i a
 
 unfoldable pub feedOpened : List ℕ → List ℕ → List ℕ → Reply
-unfolding shellOpened applied feed submits swept feedCall
+unfolding shellOpened applied feed submits swept call.run
 feedOpened b i a = feedCall b i a
 
 unfoldable pub lookupOpened : List ℕ → List ℕ → List ℕ → Reply
-unfolding shellOpened looked lookup lookupCall
+unfolding shellOpened looked lookup call.run
 lookupOpened b i a = lookupCall b i a
 
 unfoldable pub tallyOpened : List Row → List (List ℕ)

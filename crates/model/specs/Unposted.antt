@@ -12,7 +12,7 @@ use Rattle.record.specs.Grid.{decode}
 use Rattle.record.specs.declared.row.Row.{Row}
 use Rattle.rules.specs.Rules.{lookupInput, orderInput}
 use Rattle.model.specs.Call.{choose, either, isDone, lookupCall, mostInputs, orderCall, refusalArea, replied}
-use Rattle.model.specs.Call.{shell}
+use Rattle.model.specs.Call.{run, shell}
 use Rattle.model.specs.Flags.{rollBack}
 use Rattle.model.specs.Lookup.{looked, lookup}
 use Rattle.model.specs.Names.{aTrade}
@@ -76,7 +76,7 @@ lookup-rows rs inputs = looks-only (every (λ (i : Row). there (aTrade (i .id)) 
 
 -- a lookup leaves every byte of the book
 pub lookup-keeps : (b input answer : List ℕ) → Bytes b → lookupCall b input answer .book ≡ b
-unfolding lookupCall
+unfolding run
 lookup-keeps b input answer bs =
     let is = rows input in
     shell-keeps b answer bs (λ rs. lookup rs is)
@@ -93,7 +93,7 @@ rolled-back rs input number (post p) e = rw e
 -- and so does an order with roll back
 pub roll-back-keeps : (b input answer : List ℕ) → Bytes b → rollBack (decode input .flags) ≡ true
     → orderCall b input answer .book ≡ b
-unfolding orderCall order.order
+unfolding run order.order
 roll-back-keeps b input answer bs e =
     let i = decode input in
     let v = order.view (rows b) i in

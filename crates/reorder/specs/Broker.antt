@@ -21,8 +21,8 @@ use Rattle.tables.specs.Names.{by-party}
 use Rattle.kept.specs.Posted.{writes}
 use Rattle.reorder.specs.Agree.{only, the-total}
 use Rattle.kept.specs.Cases.{cond-no}
+use Rattle.kept.specs.Once.{key-once}
 use Rattle.reorder.specs.Inv.{Inv, broker-key, broker-kind, inv-step, itsBroker, sum-none, totals, turns}
-use Rattle.reorder.specs.SameView.{key-once}
 use Rattle.reorder.specs.Sim.{final, trace}
 use Rattle.reorder.specs.Step.{Done, Note, Refused, done-status, outcome, step, step-cases}
 

@@ -28,7 +28,7 @@ use Rattle.laws.specs.Puts.{news, olds}
 use Rattle.laws.specs.Total.{total-append, total-map, total-single, total-zero}
 use Rattle.reorder.specs.Agree.{Agree, the-total}
 use Rattle.kept.specs.Cases.{by-cases, no}
-use Rattle.reorder.specs.SameView.{key-once}
+use Rattle.kept.specs.Once.{key-once}
 use Rattle.reorder.specs.Step.{Done, Note, Refused, broker-has, done-live, done-sound, done-total, outcome, seen}
 use Rattle.reorder.specs.Step.{step, step-cases, step-length}
 use Rattle.reorder.specs.Whose.{mine, not-broker, not-free, not-other, whose}

@@ -17,7 +17,7 @@ use Rattle.laws.specs.Search.{bit, count, place, seek, the, total}
 use Rattle.laws.specs.Tests.{and-left, and-right}
 use Rattle.record.specs.Grid.{decode}
 use Rattle.record.specs.declared.row.Row.{Row}
-use Rattle.model.specs.Call.{Reply, either, isDone, refusalArea, replied, resultCall, shell}
+use Rattle.model.specs.Call.{Reply, either, isDone, refusalArea, replied, resultCall, run, shell}
 use Rattle.model.specs.Plan.{Outcome}
 use Rattle.model.specs.Rows.{bytes, mostRecords, recordSize, rows, wholeRecords}
 use Rattle.model.specs.Sound.{sound}
@@ -76,7 +76,7 @@ module _ (b input area : List ℕ) (s : SoundBytes b) (l : length input ≡ reco
   o = outcome (rows b) i
 
   call-is : resultCall b input area ≡ replied o b area
-  unfolding resultCall shell
+  unfolding run shell
   call-is = rw (l, k, s .whole, s .right)
 
   reply-status : resultCall b input area .status ≡ step (rows b) i .0 .status

@@ -22,8 +22,8 @@ use Rattle.result.specs.Apart.{found-live, found-member}
 use Rattle.laws.specs.Puts.{count-less, is-counted, member, the-one}
 use Rattle.kept.specs.Cases.{by-cases, no}
 use Rattle.kept.specs.ResultBase.{free-nothing}
+use Rattle.kept.specs.Once.{key-once}
 use Rattle.reorder.specs.Inv.{Inv, inv-step, nameless, namelessNote}
-use Rattle.reorder.specs.SameView.{key-once}
 use Rattle.reorder.specs.Sim.{final, trace}
 use Rattle.reorder.specs.Step.{Note, step, step-length}
 

@@ -1,16 +1,13 @@
 -- Two sound books that agree on an account's rows and on those that no result changes: a result of the account reads
 -- the same of both. Assumes nothing.
 use mathlib.Core.Path.{_≡_, refl, sym, ap, _∙_}
-use mathlib.Core.Bool.{Bool, true, false, not, _&&_}
+use mathlib.Core.Bool.{true, false, not, _&&_}
 use mathlib.Core.List.{List}
-use Prim.Native.Nat.{ℕ, _≤_}
-use native.Mathlib.Omega.{arith}
-use lib.Dec.{eqb, leb}
-use borrow.Author.Tests.{eq-eqb, eqb-false, eqb-true, leb-false}
-use Rattle.laws.specs.Keep.{count-one, the-has}
-use Rattle.laws.specs.Place.{the-passes}
-use Rattle.laws.specs.Search.{count, the}
-use Rattle.laws.specs.Tests.{Means, _⇔_, and-both, and-left, and-right, means-and, means-eq, means-le}
+use Prim.Native.Nat.{ℕ}
+use lib.Dec.{eqb}
+use borrow.Author.Tests.{eq-eqb, eqb-true}
+use Rattle.laws.specs.Keep.{count-one}
+use Rattle.laws.specs.Tests.{_⇔_, and-both, and-left, and-right}
 use Rattle.record.specs.Codes.{kindAccount, kindBand, kindCustomerRate, kindFree, kindLot, kindLotHistory, kindSummary}
 use Rattle.record.specs.Codes.{kindTrade}
 use Rattle.record.specs.Key.{among}
@@ -23,81 +20,18 @@ use Rattle.model.specs.Money.{buys}
 use Rattle.model.specs.Names.{aCustomer, aLot, aSecurity, aSummary, aTaxRate, aTrade, anAccount}
 use Rattle.model.specs.Result.{View, view}
 use Rattle.model.specs.Rows.{found, hasKey, is, nothing, sameRow}
-use Rattle.model.specs.Sound.{lotOf, overlaps, ratesOf, short, sound}
-use Rattle.model.specs.SoundMeans.{means-sound}
+use Rattle.model.specs.Sound.{lotOf, ratesOf, short, sound}
 use Rattle.shelf.specs.Put.{row-itself, same-rows}
 use Rattle.tables.specs.Names.{by-holder, by-id, by-party}
 use Rattle.result.specs.Apart.{key-kind}
-use Rattle.laws.specs.Puts.{count-less}
 use Rattle.reorder.specs.Agree.{Agree, the-agree, total-agree}
 use Rattle.kept.specs.Looks.{rates-alike}
-use Rattle.kept.specs.ResultFresh.{one-key}
-use Rattle.kept.specs.Cases.{by-cases, no}
+use Rattle.kept.specs.Once.{band-once, key-once, means-band}
+use Rattle.kept.specs.Cases.{no}
 use Rattle.reorder.specs.Earlier.{before-both, before-total, before-trans}
 use Rattle.reorder.specs.Sorted.{sort-agree}
 use Rattle.reorder.specs.Whose.{aside, byParty, byTrade, mine, mine-none, mine-own, whose-none, whose-party}
 use Rattle.reorder.specs.Whose.{whose-trade}
-
--- S2: a key has one row at most
-pub key-once : (rs : List Row) → sound rs ≡ true → (k : Key) → eqb (k .kind) kindFree ≡ false
-    → count (hasKey k) rs ≤ 1
-key-once rs good k live = one-key rs (means-sound rs .shows good .s2) k (eqb-false (k .kind) kindFree live)
-
--- S4: shares have one band at most
-abbrev Band : ℕ → ℕ → ℕ → ℕ → Row → Type 0
-Band form tier exchange shares r =
-    (((((r .kind ≡ kindBand) × (r .form ≡ form)) × (r .status ≡ tier)) × (r .flags ≡ exchange)) × (r .n1 ≤ shares))
-    × (shares ≤ r .n2)
-
-means-band : (form tier exchange shares : ℕ) (r : Row)
-    → Means (bandFor form tier exchange shares r) (Band form tier exchange shares r)
-means-band form tier exchange shares r =
-    means-and
-    (means-and
-    (means-and
-    (means-and (means-and (means-eq (r .kind) kindBand) (means-eq (r .form) form)) (means-eq (r .status) tier))
-    (means-eq (r .flags) exchange))
-    (means-le (r .n1) shares))
-    (means-le shares (r .n2))
-
-both-overlap : (form tier exchange shares : ℕ) (x y : Row) → Band form tier exchange shares x
-    → Band form tier exchange shares y → overlaps x y ≡ true
-both-overlap form tier exchange shares x y p q =
-    let same =
-    means-and
-    (means-and (means-and (means-eq (y .kind) kindBand) (means-eq (x .form) (y .form)))
-    (means-eq (x .status) (y .status)))
-    (means-eq (x .flags) (y .flags))
-    in
-    means-and (means-and same (means-le (x .n1) (y .n2))) (means-le (y .n1) (x .n2)) .holds (
-      (
-        (
-          (
-            (q .0 .0 .0 .0 .0, p .0 .0 .0 .0 .1 ∙ sym (q .0 .0 .0 .0 .1)),
-            p .0 .0 .0 .1 ∙ sym (q .0 .0 .0 .1),
-          ),
-          p .0 .0 .1 ∙ sym (q .0 .0 .1),
-        ),
-        let a = p .0 .1 in let b = q .1 in omega arith,
-      ),
-      let a = q .0 .1 in let b = p .1 in omega arith,
-    )
-
-band-once : (rs : List Row) → sound rs ≡ true → (form tier exchange shares : ℕ)
-    → count (bandFor form tier exchange shares) rs ≤ 1
-band-once rs good form tier exchange shares =
-    let p : Row → Bool = λ r. bandFor form tier exchange shares r in
-    let means = means-band form tier exchange shares in
-    by-cases (leb 1 (count p rs))
-    (λ some.
-    let x = the p nothing rs in
-    let has = means x .shows (the-passes p nothing rs some) in
-    let one = means-sound rs .shows good .s4 x (the-has p nothing rs some) (has .0 .0 .0 .0 .0) in
-    let most =
-    count-less p (overlaps x) rs (λ y m e. both-overlap form tier exchange shares x y has (means y .shows e))
-    in
-    omega arith)
-    (λ none. let h = leb-false 1 (count p rs) none in omega arith)
 
 -- ---- what a result of the account a reads
 module _ (own : ℕ → ℕ) (a : ℕ) (s t : List Row) (good : sound t ≡ true) (h : Agree sameRow (mine own a) s t) where

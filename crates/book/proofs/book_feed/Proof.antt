@@ -1,11 +1,11 @@
 -- The shell's promise at a feed. Assumes nothing.
-use Rattle.model.specs.Call.{feedCall}
+use Rattle.model.specs.Call.{run}
 use borrow.Author.Needs.{needs}
 use Rattle.book.proofs.book_feed.Statement.{statement}
 use Rattle.book.proofs.book_feed.Tie as tie
 
 returns : tie.Need-returns
-unfolding feedCall
+unfolding run
 returns c = search needs
 
 pub book-feed-spec : {M : Type 1} → statement M

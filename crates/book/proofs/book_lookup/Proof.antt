@@ -2,7 +2,7 @@
 use native.Mathlib.Omega.{arith}
 use lib.ListN.{length}
 use Prim.Native.Nat.{_*_}
-use Rattle.model.specs.Call.{lookupCall}
+use Rattle.model.specs.Call.{run}
 use Rattle.model.specs.declared.Status.the-variants.{BadLength}
 use Rattle.reply.specs.Back.{number-back}
 use Rattle.sound.specs.ByRow.{rule-kept, rule-lost}
@@ -12,7 +12,7 @@ use Rattle.book.proofs.book_lookup.Statement.{statement}
 use Rattle.book.proofs.book_lookup.Tie as tie
 
 returns : tie.Need-returns
-unfolding lookupCall
+unfolding run
 returns c =
     let whole = c .before .before in
     let args = whole .before .before .before .before .args in
@@ -31,7 +31,7 @@ finish-requires c κs =
     lookup-long (args .input .now) (args .answer .now) (test .before .whole .ensures) (test .if1 .left) .3
 
 returns-2 : tie.Need-returns-2
-unfolding lookupCall
+unfolding run
 returns-2 c =
     let finish = c .before .before in
     let test = finish .before .before in
@@ -67,7 +67,7 @@ finish-requires-2 c κs =
     omega arith
 
 returns-3 : tie.Need-returns-3
-unfolding lookupCall
+unfolding run
 returns-3 c =
     let finish = c .before .before in
     let lookup = finish .before .before .before .before in

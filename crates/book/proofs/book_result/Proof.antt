@@ -1,11 +1,11 @@
 -- The shell's promise at a result. Assumes nothing.
-use Rattle.model.specs.Call.{resultCall}
+use Rattle.model.specs.Call.{run}
 use borrow.Author.Needs.{needs}
 use Rattle.book.proofs.book_result.Statement.{statement}
 use Rattle.book.proofs.book_result.Tie as tie
 
 returns : tie.Need-returns
-unfolding resultCall
+unfolding run
 returns c = search needs
 
 pub book-result-spec : {M : Type 1} → statement M
