@@ -1,0 +1,288 @@
+-- Demand 2, proved: a call's status is that of the first of its tests that passes, each test means its condition, and
+-- so the one law of tables says when each status is given. Assumes nothing.
+use mathlib.Core.Path.{_≡_, refl, sym, ap, _∙_}
+use mathlib.Core.Bool.{Bool, true, false, not, _&&_}
+use mathlib.Core.List.{List, [], _∷_}
+use Prim.Native.Nat.{ℕ, _+_}
+use lib.Dec.{eqb, leb}
+use borrow.Author.Tests.{not-false}
+use lib.IntN.{natAbs}
+use lib.ListN.{length}
+use Rattle.laws.specs.Search.{every}
+use Rattle.laws.specs.Tests.{means-eq}
+use Rattle.record.specs.Codes.{kindFree, submitted}
+use Rattle.record.specs.Grid.{decode}
+use Rattle.record.specs.declared.row.Row.{Row}
+use Rattle.rules.specs.Ranges.{brokerTrades, commissionTotal, moneyMost, tradeNumber, volume}
+use Rattle.model.specs.Call.{Call, aFeed, aLookup, aResult, anOrder, decideOf, fieldsOf}
+use Rattle.model.specs.Call.{lengthsOf, replied, run, shell}
+use Rattle.model.specs.Feed.{feed, volumesFit}
+use Rattle.model.specs.Flags.{rollBack}
+use Rattle.model.specs.Lookup.{lookup}
+use Rattle.model.specs.Money.{untaxed}
+use Rattle.model.specs.Names.{aBroker, aSecurity, aTrade, anAccount}
+use Rattle.model.specs.Order as order
+use Rattle.model.specs.Plan.{checked, finished, limited, room}
+use Rattle.model.specs.Result as result
+use Rattle.model.specs.Rows.{found, is, mostRecords, rows, there, wholeRecords}
+use Rattle.model.specs.Sound.{sound}
+use Rattle.model.specs.SoundMeans.{SoundBook, means-sound}
+use Rattle.model.specs.Status.{number}
+use Rattle.kept.specs.Cases.{not-so}
+use Rattle.demands.specs.Conditions.{means-a-security, means-a-trade, means-absent, means-an-account}
+use Rattle.demands.specs.Conditions.{means-bad-book, means-fields, means-lengths, means-more, means-no-charge}
+use Rattle.demands.specs.Conditions.{means-no-rate, means-not, means-one-fails, means-some, means-unknown}
+use Rattle.demands.specs.Conditions.{means-untaxed}
+use Rattle.demands.specs.Demand2.{Demand2, fedBy, feedLines, lookupLines, orderLines, ownLines, resultLines}
+use Rattle.demands.specs.Demand2.{table}
+use Rattle.demands.specs.Lines.{Told, exactly, given}
+use Rattle.demands.specs.Numbers.{one-status}
+
+-- ---- order
+abbrev orderTests : List Row → Row → List Bool
+orderTests rs i =
+    let v = order.view rs i in
+    let w = order.walked i v in
+    is kindFree (v .account) ∷ is kindFree (v .security)
+    ∷ untaxed (v .account .form) (v .rates) (w .bought) (w .sold)
+    ∷ not (leb 1 (v .rate)) ∷ not (leb 1 (v .charge)) ∷ not (leb (v .number) (tradeNumber .high))
+    ∷ not (leb (length (order.posting i v .added)) (room rs)) ∷ []
+
+order-told : (rs : List Row) (i : Row) → sound rs ≡ true → Told (orderLines rs i) (orderTests rs i)
+unfolding order.view
+order-told rs i good =
+    let v = order.view rs i in (
+      means-absent rs (anAccount (i .party)) (means-an-account (i .party)) refl,
+      λ _. (
+        means-absent rs (aSecurity (i .symbol)) (means-a-security (i .symbol)) refl,
+        λ _. (
+          means-untaxed rs good (i .party) (v .rates) (order.walked i v),
+          λ _. (
+            means-no-rate rs good (i .form) _ _ (i .n1),
+            λ _. (
+              means-no-charge rs good (i .form) _,
+              λ _. (
+                means-more (order.nextNumber rs) (tradeNumber .high),
+                λ _. (means-more (length (order.posting i v .added)) (room rs), λ _. tt),
+              ),
+            ),
+          ),
+        ),
+      ),
+    )
+
+order-status : (rs : List Row) (i : Row) → order.order rs i .status ≡ given (orderLines rs i) (orderTests rs i)
+unfolding order.order order.plan order.finish checked finished limited
+order-status rs i =
+    go (is kindFree (v .account)) (is kindFree (v .security)) _ (leb 1 (v .rate)) (leb 1 (v .charge))
+    (leb (v .number) (tradeNumber .high)) (leb (length (order.posting i v .added)) (room rs)) (rollBack (i .flags))
+    refl refl refl refl refl refl refl refl
+  where
+    v : order.View
+    v = order.view rs i
+
+    go : (a s t r c n m k : Bool) → is kindFree (v .account) ≡ a → is kindFree (v .security) ≡ s
+        → untaxed (v .account .form) (v .rates) (order.walked i v .bought) (order.walked i v .sold) ≡ t
+        → leb 1 (v .rate) ≡ r → leb 1 (v .charge) ≡ c → leb (v .number) (tradeNumber .high) ≡ n
+        → leb (length (order.posting i v .added)) (room rs) ≡ m → rollBack (i .flags) ≡ k
+        → order.order rs i .status ≡ given (orderLines rs i) (orderTests rs i)
+    go true s t r c n m k ea es et er ec en em ek = rw ea
+    go false true t r c n m k ea es et er ec en em ek = rw (ea, es)
+    go false false true r c n m k ea es et er ec en em ek = rw (ea, es, et)
+    go false false false false c n m k ea es et er ec en em ek = rw (ea, es, et, er)
+    go false false false true false n m k ea es et er ec en em ek = rw (ea, es, et, er, ec)
+    go false false false true true false m true ea es et er ec en em ek = rw (ea, es, et, er, ec, en, ek)
+    go false false false true true false m false ea es et er ec en em ek = rw (ea, es, et, er, ec, en, ek)
+    go false false false true true true false true ea es et er ec en em ek = rw (ea, es, et, er, ec, en, em, ek)
+    go false false false true true true false false ea es et er ec en em ek = rw (ea, es, et, er, ec, en, em, ek)
+    go false false false true true true true true ea es et er ec en em ek = rw (ea, es, et, er, ec, en, em, ek)
+    go false false false true true true true false ea es et er ec en em ek = rw (ea, es, et, er, ec, en, em, ek)
+
+-- ---- result
+abbrev resultTests : List Row → Row → List Bool
+resultTests rs i =
+    let v = result.view rs i in
+    let f = result.figures i v in
+    let b = found (aBroker (v .account .n1)) rs in
+    is kindFree (v .trade) ∷ not (eqb (v .trade .status) submitted)
+    ∷ untaxed (v .account .form) (v .rates) (f .walked .bought) (f .walked .sold)
+    ∷ not (leb 1 (v .rate))
+    ∷ not (leb (natAbs (f .balance)) moneyMost && leb (b .n1 + 1) (brokerTrades .high)
+    && leb (b .m1 + f .commission) (commissionTotal .high))
+    ∷ not (leb (length (result.posting i v f .added)) (room rs)) ∷ []
+
+result-told : (rs : List Row) (i : Row) → sound rs ≡ true → Told (resultLines rs i) (resultTests rs i)
+unfolding result.view
+result-told rs i good =
+    let v = result.view rs i in
+    let f = result.figures i v in
+    let b = found (aBroker (v .account .n1)) rs in (
+      means-absent rs (aTrade (i .id)) (means-a-trade (i .id)) refl,
+      λ _. (
+        means-not (means-eq (v .trade .status) submitted),
+        λ _. (
+          means-untaxed rs good (v .trade .party) (v .rates) (f .walked),
+          λ _. (
+            means-no-rate rs good (v .trade .form) _ _ (v .trade .n1),
+            λ _. (
+              means-one-fails (leb (natAbs (f .balance)) moneyMost) (leb (b .n1 + 1) (brokerTrades .high))
+                  (leb (b .m1 + f .commission) (commissionTotal .high)) (means-more (natAbs (f .balance)) moneyMost)
+                  (means-more (b .n1 + 1) (brokerTrades .high))
+                  (means-more (b .m1 + f .commission) (commissionTotal .high)),
+              λ _. (means-more (length (result.posting i v f .added)) (room rs), λ _. tt),
+            ),
+          ),
+        ),
+      ),
+    )
+
+result-status : (rs : List Row) (i : Row) → result.result rs i .status ≡ given (resultLines rs i) (resultTests rs i)
+unfolding result.result result.plan result.finish checked finished limited
+result-status rs i =
+    go (is kindFree (v .trade)) (eqb (v .trade .status) submitted) _ (leb 1 (v .rate)) within
+    (leb (length (result.posting i v f .added)) (room rs)) refl refl refl refl refl refl
+  where
+    v : result.View
+    v = result.view rs i
+
+    f : result.Figures
+    f = result.figures i v
+
+    b : Row
+    b = found (aBroker (v .account .n1)) rs
+
+    within : Bool
+    within =
+        leb (natAbs (f .balance)) moneyMost && leb (b .n1 + 1) (brokerTrades .high)
+        && leb (b .m1 + f .commission) (commissionTotal .high)
+
+    go : (a s t r n m : Bool) → is kindFree (v .trade) ≡ a → eqb (v .trade .status) submitted ≡ s
+        → untaxed (v .account .form) (v .rates) (f .walked .bought) (f .walked .sold) ≡ t
+        → leb 1 (v .rate) ≡ r → within ≡ n → leb (length (result.posting i v f .added)) (room rs) ≡ m
+        → result.result rs i .status ≡ given (resultLines rs i) (resultTests rs i)
+    go true s t r n m ea es et er en em = rw ea
+    go false false t r n m ea es et er en em = rw (ea, es)
+    go false true true r n m ea es et er en em = rw (ea, es, et)
+    go false true false false n m ea es et er en em = rw (ea, es, et, er)
+    go false true false true false m ea es et er en em = rw (ea, es, et, er, en)
+    go false true false true true false ea es et er en em = rw (ea, es, et, er, en, em)
+    go false true false true true true ea es et er en em = rw (ea, es, et, er, en, em)
+
+-- ---- feed
+abbrev feedTests : List Row → List Row → List Bool
+feedTests rs es =
+    not (every (λ (e : Row). there (aSecurity (e .symbol)) rs) es) ∷ not (volumesFit (fedBy rs es .rows) es)
+    ∷ not (leb (fedBy rs es .trades) (room rs)) ∷ []
+
+feed-told : (rs es : List Row) → Told (feedLines rs es) (feedTests rs es)
+feed-told rs es = (
+  means-some (λ (e : Row). there (aSecurity (e .symbol)) rs) es
+      (λ e. means-unknown rs (aSecurity (e .symbol)) (means-a-security (e .symbol))),
+  λ _. (
+    means-some (λ (e : Row). leb (found (aSecurity (e .symbol)) (fedBy rs es .rows) .m1) (volume .high)) es
+        (λ e. means-more (found (aSecurity (e .symbol)) (fedBy rs es .rows) .m1) (volume .high)),
+    λ _. (means-more (fedBy rs es .trades) (room rs), λ _. tt),
+  ),
+)
+
+feed-status : (rs es : List Row) → feed rs es .status ≡ given (feedLines rs es) (feedTests rs es)
+unfolding feed limited
+feed-status rs es =
+    go (every (λ (e : Row). there (aSecurity (e .symbol)) rs) es) (volumesFit (fedBy rs es .rows) es)
+    (leb (fedBy rs es .trades) (room rs)) refl refl refl
+  where
+    go : (a n m : Bool) → every (λ (e : Row). there (aSecurity (e .symbol)) rs) es ≡ a
+        → volumesFit (fedBy rs es .rows) es ≡ n → leb (fedBy rs es .trades) (room rs) ≡ m
+        → feed rs es .status ≡ given (feedLines rs es) (feedTests rs es)
+    go false n m ea en em = rw ea
+    go true false m ea en em = rw (ea, en)
+    go true true false ea en em = rw (ea, en, em)
+    go true true true ea en em = rw (ea, en, em)
+
+-- ---- lookup
+abbrev lookupTests : List Row → List Row → List Bool
+lookupTests rs is = not (every (λ (i : Row). there (aTrade (i .id)) rs) is) ∷ []
+
+lookup-told : (rs is : List Row) → Told (lookupLines rs is) (lookupTests rs is)
+lookup-told rs is = (
+  means-some (λ (i : Row). there (aTrade (i .id)) rs) is
+      (λ i. means-unknown rs (aTrade (i .id)) (means-a-trade (i .id))),
+  λ _. tt,
+)
+
+lookup-status : (rs is : List Row) → lookup rs is .status ≡ given (lookupLines rs is) (lookupTests rs is)
+unfolding lookup
+lookup-status rs is = go (every (λ (i : Row). there (aTrade (i .id)) rs) is) refl
+  where
+    go : (a : Bool) → every (λ (i : Row). there (aTrade (i .id)) rs) is ≡ a
+        → lookup rs is .status ≡ given (lookupLines rs is) (lookupTests rs is)
+    go true e = rw e
+    go false e = rw e
+
+-- ---- a call's own lines
+abbrev ownTests : Call → List Row → List ℕ → List Bool
+ownTests anOrder rs input = orderTests rs (decode input)
+ownTests aResult rs input = resultTests rs (decode input)
+ownTests aFeed rs input = feedTests rs (rows input)
+ownTests aLookup rs input = lookupTests rs (rows input)
+
+own-told : (c : Call) (rs : List Row) (input : List ℕ) → sound rs ≡ true
+    → Told (ownLines c rs input) (ownTests c rs input)
+own-told anOrder rs input good = order-told rs (decode input) good
+own-told aResult rs input good = result-told rs (decode input) good
+own-told aFeed rs input good = feed-told rs (rows input)
+own-told aLookup rs input good = lookup-told rs (rows input)
+
+own-status : (c : Call) (rs : List Row) (input : List ℕ)
+    → decideOf c input rs .status ≡ given (ownLines c rs input) (ownTests c rs input)
+own-status anOrder rs input = order-status rs (decode input)
+own-status aResult rs input = result-status rs (decode input)
+own-status aFeed rs input = feed-status rs (rows input)
+own-status aLookup rs input = lookup-status rs (rows input)
+
+-- ---- the whole table
+module _ (c : Call) (book input answer : List ℕ) where
+  abbrev tests : List Bool
+  tests =
+      not (lengthsOf c (length input) (length answer)) ∷ not (wholeRecords mostRecords (length book))
+      ∷ not (sound (rows book)) ∷ not (fieldsOf c input) ∷ ownTests c (rows book) input
+
+  told : Told (table c book input answer) tests
+  told = (
+    means-not (means-lengths c (length input) (length answer)),
+    λ _. (
+      means-bad-book (length book),
+      λ _. (
+        means-not (means-sound (rows book)),
+        λ s. (means-not (means-fields c input), λ _. own-told c (rows book) input (not-not-so s)),
+      ),
+    ),
+  )
+    where
+      not-not-so : ((SoundBook (rows book) → ⊥) → ⊥) → sound (rows book) ≡ true
+      not-not-so s =
+          not-false (sound (rows book))
+          (not-so (not (sound (rows book))) (λ e. s (means-not (means-sound (rows book)) .shows e)))
+
+  status-is : run c book input answer .status ≡ given (table c book input answer) tests
+  unfolding run shell replied
+  status-is =
+      go (lengthsOf c (length input) (length answer)) (wholeRecords mostRecords (length book)) (sound (rows book))
+      (fieldsOf c input) refl refl refl refl
+    where
+      go : (l w s f : Bool) → lengthsOf c (length input) (length answer) ≡ l
+          → wholeRecords mostRecords (length book) ≡ w → sound (rows book) ≡ s → fieldsOf c input ≡ f
+          → run c book input answer .status ≡ given (table c book input answer) tests
+      go false w s f el ew es ef = rw el
+      go true false s f el ew es ef = rw (el, ew)
+      go true true false f el ew es ef = rw (el, ew, es)
+      go true true true false el ew es ef = rw (el, ew, es, ef)
+      go true true true true el ew es ef = rw (el, ew, es, ef) (own-status c (rows book) input)
+
+pub demand-2 : Demand2
+demand-2 c book input answer returned book′ answer′ p s =
+    let due = exactly (table c book input answer) (tests c book input answer) (told c book input answer) s in
+    let same = status-is c book input answer in (
+      λ e. due .0 (sym same ∙ one-status _ s (sym (p .returns) ∙ e)),
+      λ d. p .returns ∙ ap number (same ∙ due .1 d),
+    )

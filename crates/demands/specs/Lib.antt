@@ -1,0 +1,7 @@
+pub mod Numbers
+pub mod Demand1
+pub mod Refused
+pub mod Demand2
+pub mod Lines
+pub mod Conditions
+pub mod Checked

@@ -1,0 +1,36 @@
+-- The one law of every table of statuses: where each line's test means its condition, the status of the first test
+-- that passes is the one that is due. A new refusal is one more line and one more test. Assumes nothing.
+use mathlib.Core.Path.{_≡_, refl, sym}
+use mathlib.Core.Bool.{Bool, true, false, cond, false≢true}
+use mathlib.Core.List.{List, [], _∷_}
+use mathlib.Core.Logic.{_↔_, inl, inr, ⊎-elim}
+use Rattle.laws.specs.Tests.{Means}
+use Rattle.model.specs.declared.Status.{Status}
+use Rattle.model.specs.declared.Status.the-variants.{Done}
+use Rattle.demands.specs.Demand2.{Due, Line}
+
+-- a test for each line, which means its condition where none of those before it holds
+abbrev pub Told : List Line → List Bool → Type 0
+Told [] bs = Unit {0}
+Told (l ∷ ls) [] = ⊥
+Told (l ∷ ls) (b ∷ bs) = Means b (l .When) × ((l .When → ⊥) → Told ls bs)
+
+-- the status of the first line whose test passes
+abbrev pub given : List Line → List Bool → Status
+given [] bs = Done
+given (l ∷ ls) [] = Done
+given (l ∷ ls) (b ∷ bs) = cond b (l .status) (given ls bs)
+
+pub exactly : (ls : List Line) (bs : List Bool) → Told ls bs → (s : Status) → (given ls bs ≡ s) ↔ Due s ls
+exactly [] bs t s = (sym, sym)
+exactly (l ∷ ls) [] t s = absurd t
+exactly (l ∷ ls) (b ∷ bs) t s = go b (t .0) (λ n. exactly ls bs (t .1 n) s)
+  where
+    go : (b : Bool) → Means b (l .When) → ((l .When → ⊥) → (given ls bs ≡ s) ↔ Due s ls)
+        → (cond b (l .status) (given ls bs) ≡ s) ↔ Due s (l ∷ ls)
+    go true m rest =
+        let w = m .shows refl in
+        (λ e. inl (e, w), ⊎-elim (λ h. h .0) (λ h. absurd (h .0 w)))
+    go false m rest =
+        let n : l .When → ⊥ = λ w. false≢true (m .holds w) in
+        (λ e. inr (n, rest n .0 e), ⊎-elim (λ h. absurd (n (h .1))) (λ h. rest n .1 (h .1)))
