@@ -1,34 +1,44 @@
 -- A run on bytes is the run on its rows: each reply is what was noted, and the book that is left holds the rows that
--- are left. Assumes nothing.
+-- are left. A result of a wrong length is one that names no trade: nothing is read and nothing is written. Assumes
+-- nothing.
 use mathlib.Core.Path.{_≡_, refl, sym, ap, subst, _∙_}
-use mathlib.Core.Bool.{Bool, true, false, _&&_}
-use mathlib.Core.List.{List, [], _∷_, List·Memᴰ, List·Memᴰ·head, List·Memᴰ·tail}
+use mathlib.Core.Bool.{Bool, true, false, cond, _&&_}
+use mathlib.Core.List.{List, [], _∷_, List·Memᴰ·head, List·Memᴰ·tail}
 use mathlib.Core.Logic.{_⊎_, inl, inr}
-use Prim.Native.Nat.{ℕ, zero, suc, _+_, _*_, _/_, _%_, _≤_, _<_}
+use Prim.Native.Nat.{ℕ, suc, _+_, _*_, _/_, _%_, _≤_}
 use native.Mathlib.Omega.{arith}
-use lib.Dec.{eqb, leb, ltb}
+use lib.Dec.{eqb, leb}
 use lib.ListN.{length, getD, length-map}
-use borrow.Author.Tests.{eq-eqb, eqb-true, leb-true, ltb-true}
-use Rattle.laws.specs.All.{All}
+use borrow.Author.Tests.{eqb-true, leb-true}
 use Rattle.laws.specs.Chunk.{length-chunk}
-use Rattle.laws.specs.Keep.{count-has}
 use Rattle.laws.specs.Place.{seek-suc}
-use Rattle.laws.specs.Search.{bit, count, place, seek, the, total}
+use Rattle.laws.specs.Search.{count, place, seek, the, total}
 use Rattle.laws.specs.Tests.{and-left, and-right}
+use Rattle.record.specs.Codes.{kindTrade}
 use Rattle.record.specs.Grid.{decode}
+use Rattle.record.specs.declared.key.Key.{Key}
 use Rattle.record.specs.declared.row.Row.{Row}
-use Rattle.model.specs.Call.{Reply, either, isDone, refusalArea, replied, resultCall, run, shell}
+use Rattle.rules.specs.Meaning.{means-fits, means-trade}
+use Rattle.rules.specs.Ranges.{limited}
+use Rattle.rules.specs.Rules.{as-kind, resultInput}
+use Rattle.model.specs.declared.Status.the-variants.{BadInput, BadLength, NoRoom, OverLimit}
+use Rattle.model.specs.Call.{Reply, aResult, either, isDone, refusalArea, replied, resultCall, run, shell}
+use Rattle.model.specs.Names.{aTrade}
 use Rattle.model.specs.Plan.{Outcome}
-use Rattle.model.specs.Rows.{bytes, mostRecords, recordSize, rows, wholeRecords}
+use Rattle.model.specs.Rows.{bytes, found, is, mostRecords, nothing, recordSize, rows, there, wholeRecords}
 use Rattle.model.specs.Sound.{sound}
+use Rattle.model.specs.SoundMeans.{means-sound}
+use Rattle.shelf.specs.Put.{found-has, found-none}
 use Rattle.tables.specs.Found.{sound-s1}
+use Rattle.tables.specs.Names.{by-id}
+use Rattle.result.specs.Apart.{found-kind, found-member}
 use Rattle.kept.specs.Bytes.{length-bytes, rows-bytes}
 use Rattle.kept.specs.Cases.{by-cases, cond-no, cond-yes}
 use Rattle.reorder.specs.Local.{Fine}
 use Rattle.reorder.specs.Run.{noteTo, on}
 use Rattle.reorder.specs.Sim.{Fines, final, trace}
-use Rattle.kept.specs.Calls.{SoundBytes}
-use Rattle.reorder.specs.Statement.{Areas, Inputs, Order, Unhindered, call, ending, replies}
+use Rattle.kept.specs.Calls.{SoundBytes, uncalled}
+use Rattle.reorder.specs.Statement.{Unhindered, call, ending, replies, rightLengths}
 use Rattle.reorder.specs.Step.{Done, Note, Refused, done-sound, done-status, outcome, step, step-cases}
 use Rattle.reorder.specs.Step.{step-length}
 
@@ -116,77 +126,164 @@ module _ (b input area : List ℕ) (s : SoundBytes b) (l : length input ≡ reco
             ap rows e ∙ same,
           )
 
+-- ---- a result of wrong lengths
+-- the row of no input
+no-input : resultInput nothing ≡ false
+unfolding resultInput limited
+no-input = refl
+
+no-step : (rs : List Row) → (step rs nothing .0 .status ≡ BadInput) × (step rs nothing .1 ≡ rs)
+unfolding step
+no-step rs = rw no-input (refl, refl)
+
+-- and of no trade
+pub no-trade : (rs : List Row) → sound rs ≡ true → found (aTrade 0) rs .party ≡ 0
+no-trade rs good =
+    by-cases (there k rs)
+    (λ e.
+    let r = found k rs in
+    let fit = means-fits r .holds (means-sound rs .shows good .s1 r (found-member rs k e)) in
+    let many = means-trade r .shows (as-kind kindTrade r (found-kind rs k e) ∙ fit) .0 .0 .0 .2 .2 .2 .2 .2 .0 in
+    let none = eqb-true (r .id) 0 (and-right (is kindTrade r) _ (sym (by-id kindTrade refl 0 r) ∙ found-has k rs e)) in
+    absurd (omega arith))
+    (λ e. ap (λ (r : Row). r .party) (found-none k rs e))
+  where
+    k : Key
+    k = aTrade 0
+
 -- ---- a run
-module _ (list : List (List ℕ)) (area : ℕ → List ℕ) (areas : Areas area) where
+module _ (list : List (List ℕ)) (area : ℕ → List ℕ) (right : ℕ → Bool)
+    (lengths : (i : ℕ) → rightLengths list area i ≡ right i) where
+  -- the input at a place, and none where the lengths are wrong
   abbrev pub input : ℕ → Row
-  input i = decode (getD list i [])
+  input i = cond (right i) (decode (getD list i [])) nothing
 
-  abbrev Long : ℕ → Type 0
-  Long i = length (getD list i []) ≡ recordSize
+  module _ (b : List ℕ) (i : ℕ) where
+    abbrev reply : Reply
+    reply = call list area b i
 
-  module _ (b : List ℕ) (s : SoundBytes b) (i : ℕ) (l : Long i) where
-    next-sound : SoundBytes (call list area b i .book)
-    next-sound = reply-book b (getD list i []) (area i) s l (areas i) .0
+    module _ (e : right i ≡ true) where
+      asked : input i ≡ decode (getD list i [])
+      asked = cond-yes _ _ e
 
-    next-rows : rows (call list area b i .book) ≡ on input (rows b) i .1
-    next-rows = reply-book b (getD list i []) (area i) s l (areas i) .1
+      both : rightLengths list area i ≡ true
+      both = lengths i ∙ e
 
-    next-status : call list area b i .status ≡ on input (rows b) i .0 .status
-    next-status = reply-status b (getD list i []) (area i) s l (areas i)
+      input-long : length (getD list i []) ≡ recordSize
+      input-long = eqb-true _ _ (and-left (eqb (length (getD list i [])) recordSize) _ both)
 
-    next-answer : call list area b i .answer ≡ said (on input (rows b) i .0)
-    next-answer = reply-answer b (getD list i []) (area i) s l (areas i)
+      area-long : length (area i) ≡ recordSize
+      area-long = eqb-true _ _ (and-right (eqb (length (getD list i [])) recordSize) _ both)
 
-  pub ending-rows : (b : List ℕ) (o : List ℕ) → SoundBytes b → All Long o
+      next-status : SoundBytes b → reply .status ≡ on input (rows b) i .0 .status
+      next-status s =
+          reply-status b (getD list i []) (area i) s input-long area-long
+          ∙ ap (λ (r : Row). step (rows b) r .0 .status) (sym asked)
+
+      next-answer : SoundBytes b → reply .answer ≡ said (on input (rows b) i .0)
+      next-answer s =
+          reply-answer b (getD list i []) (area i) s input-long area-long
+          ∙ ap (λ (r : Row). said (step (rows b) r .0)) (sym asked)
+
+      next-right : SoundBytes b → SoundBytes (reply .book) × (rows (reply .book) ≡ on input (rows b) i .1)
+      next-right s =
+          let left = reply-book b (getD list i []) (area i) s input-long area-long in
+          (left .0, left .1 ∙ ap (λ (r : Row). step (rows b) r .1) (sym asked))
+
+    module _ (e : right i ≡ false) where
+      none : input i ≡ nothing
+      none = cond-no _ _ e
+
+      unread : reply ≡ record { status = BadLength; answer = area i; book = b }
+      unread = uncalled aResult b (getD list i []) (area i) (lengths i ∙ e)
+
+      next-wrong : SoundBytes b → SoundBytes (reply .book) × (rows (reply .book) ≡ on input (rows b) i .1)
+      next-wrong s =
+          let same = ap (λ (r : Reply). r .book) unread in (
+            subst SoundBytes (sym same) s,
+            ap rows same ∙ sym (no-step (rows b) .1) ∙ ap (λ (r : Row). step (rows b) r .1) (sym none),
+          )
+
+    next : SoundBytes b → SoundBytes (reply .book) × (rows (reply .book) ≡ on input (rows b) i .1)
+    next s = by-cases (right i) (λ e. next-right e s) (λ e. next-wrong e s)
+
+    fine : SoundBytes b → (reply .status ≡ OverLimit → ⊥) → (reply .status ≡ NoRoom → ⊥)
+        → Fine (on input (rows b) i .0)
+    fine s limit room =
+        by-cases (right i)
+        (λ e. record {
+          no-limit = λ q. limit (next-status e s ∙ q);
+          no-room = λ q. room (next-status e s ∙ q);
+        })
+        (λ e.
+        let bad : on input (rows b) i .0 .status ≡ BadInput =
+        ap (λ (r : Row). step (rows b) r .0 .status) (none e) ∙ no-step (rows b) .0
+        in
+        record {
+          no-limit = λ q. let z : _≡_ {A = ℕ} 0 1 = cc in omega arith;
+          no-room = λ q. let z : _≡_ {A = ℕ} 0 1 = cc in omega arith;
+        })
+
+  pub ending-rows : (b : List ℕ) (o : List ℕ) → SoundBytes b
       → rows (ending list area b o) ≡ final (on input) (rows b) o
   unfolding ending final
-  ending-rows b [] s a = refl
-  ending-rows b (i ∷ o) s a =
-      let l = a i (List·Memᴰ·head refl) in
-      ending-rows (call list area b i .book) o (next-sound b s i l) (λ j m. a j (List·Memᴰ·tail m))
-      ∙ ap (λ (rs : List Row). final (on input) rs o) (next-rows b s i l)
+  ending-rows b [] s = refl
+  ending-rows b (i ∷ o) s =
+      ending-rows (call list area b i .book) o (next b i s .0)
+      ∙ ap (λ (rs : List Row). final (on input) rs o) (next b i s .1)
 
-  pub fines : (b : List ℕ) (o : List ℕ) → SoundBytes b → All Long o → Unhindered (replies list area b o)
+  pub fines : (b : List ℕ) (o : List ℕ) → SoundBytes b → Unhindered (replies list area b o)
       → Fines (on input) Fine (rows b) o
   unfolding replies Fines
-  fines b [] s a u = tt
-  fines b (i ∷ o) s a u =
-      let l = a i (List·Memᴰ·head refl) in
-      let e = next-status b s i l in
+  fines b [] s u = tt
+  fines b (i ∷ o) s u =
       let rest =
-      fines (call list area b i .book) o (next-sound b s i l) (λ j m. a j (List·Memᴰ·tail m))
+      fines (call list area b i .book) o (next b i s .0)
       (record {
         no-limit = λ r m. u .no-limit r (List·Memᴰ·tail m);
         no-room = λ r m. u .no-room r (List·Memᴰ·tail m);
       })
       in (
-        record {
-          no-limit = λ q. u .no-limit (call list area b i) (List·Memᴰ·head refl) (e ∙ q);
-          no-room = λ q. u .no-room (call list area b i) (List·Memᴰ·head refl) (e ∙ q);
-        },
-        subst (λ (rs : List Row). Fines (on input) Fine rs o) (next-rows b s i l) rest,
+        fine b i s (u .no-limit (call list area b i) (List·Memᴰ·head refl))
+            (u .no-room (call list area b i) (List·Memᴰ·head refl)),
+        subst (λ (rs : List Row). Fines (on input) Fine rs o) (next b i s .1) rest,
       )
 
-  -- the reply to a place is what was noted of it
-  abbrev At : List ℕ → List ℕ → ℕ → Reply → Type 0
-  At b order j d =
-      (getD (replies list area b order) (place (eqb j) order) d .status ≡ noteTo input (rows b) order j .status)
-      × (getD (replies list area b order) (place (eqb j) order) d .answer ≡ said (noteTo input (rows b) order j))
+  -- the reply to a place is what was noted of it, and -100 where the lengths are wrong
+  pub record At (b order : List ℕ) (j : ℕ) (r : Reply) : Type 0 where
+    pub status : right j ≡ true → r .status ≡ noteTo input (rows b) order j .status
+    pub answer : right j ≡ true → r .answer ≡ said (noteTo input (rows b) order j)
+    pub refused : right j ≡ false → r .status ≡ BadLength
+    pub unwritten : right j ≡ false → r .answer ≡ area j
 
-  module _ (d : Reply) (j : ℕ) (b : List ℕ) (x : ℕ) (order : List ℕ) (s : SoundBytes b) (l : Long x) where
-    here : eqb j x ≡ true → At b (x ∷ order) j d
+  abbrev turnOf : Reply → ℕ → List ℕ → List ℕ → Reply
+  turnOf d j b order = getD (replies list area b order) (place (eqb j) order) d
+
+  module _ (d : Reply) (j : ℕ) (b : List ℕ) (x : ℕ) (order : List ℕ) (s : SoundBytes b) where
+    here : eqb j x ≡ true → At b (x ∷ order) j (turnOf d j b (x ∷ order))
     unfolding replies trace seek the
     here e =
         let turn : place (eqb j) (x ∷ order) ≡ 0 = cond-yes _ _ e in
         let noted : noteTo input (rows b) (x ∷ order) j ≡ on input (rows b) x .0 =
         ap (λ (n : ℕ × Note). n .1) (cond-yes _ _ e)
         in
-        let first = ap (λ (n : ℕ). getD (replies list area b (x ∷ order)) n d) turn in (
-          ap (λ (r : Reply). r .status) first ∙ next-status b s x l ∙ sym (ap (λ (n : Note). n .status) noted),
-          ap (λ (r : Reply). r .answer) first ∙ next-answer b s x l ∙ sym (ap said noted),
-        )
+        let first : turnOf d j b (x ∷ order) ≡ call list area b x =
+        ap (λ (n : ℕ). getD (replies list area b (x ∷ order)) n d) turn
+        in
+        let same = eqb-true j x e in
+        let at : (t : Bool) → right j ≡ t → right x ≡ t = λ t q. ap right (sym same) ∙ q in
+        record {
+          status = λ q.
+              ap (λ (r : Reply). r .status) first ∙ next-status b x (at true q) s
+              ∙ sym (ap (λ (n : Note). n .status) noted);
+          answer = λ q.
+              ap (λ (r : Reply). r .answer) first ∙ next-answer b x (at true q) s ∙ sym (ap said noted);
+          refused = λ q. ap (λ (r : Reply). r .status) (first ∙ unread b x (at false q));
+          unwritten = λ q. ap (λ (r : Reply). r .answer) (first ∙ unread b x (at false q)) ∙ ap area (sym same);
+        }
 
-    later : eqb j x ≡ false → At (call list area b x .book) order j d → At b (x ∷ order) j d
+    later : eqb j x ≡ false → At (call list area b x .book) order j (turnOf d j (call list area b x .book) order)
+        → At b (x ∷ order) j (turnOf d j b (x ∷ order))
     unfolding replies trace seek the
     later e ih =
         let turn : place (eqb j) (x ∷ order) ≡ suc (place (eqb j) order) =
@@ -194,38 +291,26 @@ module _ (list : List (List ℕ)) (area : ℕ → List ℕ) (areas : Areas area)
         in
         let noted : noteTo input (rows b) (x ∷ order) j ≡ noteTo input (rows (call list area b x .book)) order j =
         ap (λ (n : ℕ × Note). n .1) (cond-no _ _ e)
-        ∙ ap (λ (rs : List Row). noteTo input rs order j) (sym (next-rows b s x l))
+        ∙ ap (λ (rs : List Row). noteTo input rs order j) (sym (next b x s .1))
         in
-        let next = ap (λ (n : ℕ). getD (replies list area b (x ∷ order)) n d) turn in (
-          ap (λ (r : Reply). r .status) next ∙ ih .0 ∙ sym (ap (λ (n : Note). n .status) noted),
-          ap (λ (r : Reply). r .answer) next ∙ ih .1 ∙ sym (ap said noted),
-        )
+        let then : turnOf d j b (x ∷ order) ≡ turnOf d j (call list area b x .book) order =
+        ap (λ (n : ℕ). getD (replies list area b (x ∷ order)) n d) turn
+        in
+        record {
+          status = λ q.
+              ap (λ (r : Reply). r .status) then ∙ ih .status q ∙ sym (ap (λ (n : Note). n .status) noted);
+          answer = λ q. ap (λ (r : Reply). r .answer) then ∙ ih .answer q ∙ sym (ap said noted);
+          refused = λ q. ap (λ (r : Reply). r .status) then ∙ ih .refused q;
+          unwritten = λ q. ap (λ (r : Reply). r .answer) then ∙ ih .unwritten q;
+        }
 
-  pub reply-noted : (d : Reply) (j : ℕ) (b : List ℕ) (order : List ℕ) → SoundBytes b → All Long order
-      → 1 ≤ count (eqb j) order → At b order j d
+  pub reply-noted : (d : Reply) (j : ℕ) (b : List ℕ) (order : List ℕ) → SoundBytes b → 1 ≤ count (eqb j) order
+      → At b order j (turnOf d j b order)
   unfolding count total
-  reply-noted d j b [] s a h = absurd (omega arith)
-  reply-noted d j b (x ∷ order) s a h =
-      let l = a x (List·Memᴰ·head refl) in
+  reply-noted d j b [] s h = absurd (omega arith)
+  reply-noted d j b (x ∷ order) s h =
       by-cases (eqb j x)
-      (λ e. here d j b x order s l e)
+      (λ e. here d j b x order s e)
       (λ e.
       let k : 1 ≤ 0 + count (eqb j) order = rw e at h in
-      later d j b x order s l e
-      (reply-noted d j (call list area b x .book) order (next-sound b s x l) (λ y m. a y (List·Memᴰ·tail m))
-      (omega arith)))
-
--- every place of an order is one of the list
-getD-member : (list : List (List ℕ)) (i : ℕ) → i < length list → List·Memᴰ (getD list i []) list
-getD-member [] i h = absurd (omega arith)
-getD-member (x ∷ list) zero h = List·Memᴰ·head refl
-getD-member (x ∷ list) (suc i) h = List·Memᴰ·tail (getD-member list i (omega arith))
-
-pub all-long : (list : List (List ℕ)) → Inputs list → (order : List ℕ) → Order (length list) order
-    → (i : ℕ) → List·Memᴰ i order → length (getD list i []) ≡ recordSize
-all-long list inputs order is-order i m =
-    let c = count-has (eqb i) i order m (eq-eqb i i refl) in
-    let e = is-order i in
-    by-cases (ltb i (length list))
-    (λ h. inputs (getD list i []) (getD-member list i (ltb-true i (length list) h)))
-    (λ h. let z : bit (ltb i (length list)) ≡ 0 = ap bit h in absurd (omega arith))
+      later d j b x order s e (reply-noted d j (call list area b x .book) order (next b x s .0) (omega arith)))

@@ -1,4 +1,4 @@
--- The theorem is not vacuous: a book and a list of four results for which all that it asks holds, in two orders whose
+-- The theorem is not vacuous: a book and a list of five results for which all that it asks holds, in two orders whose
 -- end books differ in their places. And it asks for no more than it needs: where an account's own two results change
 -- places, the answer to one of them is another. Each fact of the book is found by computation. Assumes nothing.
 use mathlib.Core.Path.{_≡_, refl, sym, ap, _∙_}
@@ -10,18 +10,17 @@ use lib.Dec.{eqb, ltb}
 use lib.IntN.{natAbs}
 use lib.ListN.{length, getD, replicate}
 use borrow.Author.Tests.{eqb-false, eqb-true, le-ltb, ne-eqb}
-use Rattle.laws.specs.All.{All, all-more, all-none}
 use Rattle.laws.specs.Search.{bit, count, every, keep, means-every, seek, total}
 use Rattle.record.specs.Codes.{kindAccount, kindBand, kindBroker, kindCustomer, kindResult, kindSecurity, kindTrade}
 use Rattle.record.specs.Codes.{kindTradeHistory, submitted, tmb, tms}
-use Rattle.record.specs.Grid.{decode, encode, length-encode}
+use Rattle.record.specs.Grid.{decode, encode}
 use Rattle.record.specs.declared.row.Row.{Row}
 use Rattle.rules.specs.Ranges.{flags, form, id, kind, n1, n2, n3, n4, party, status, symbol, when}
 use Rattle.model.specs.declared.Status.{Status}
 use Rattle.model.specs.Call.{Reply}
 use Rattle.model.specs.Edit.{_≔_, new}
 use Rattle.model.specs.Evaluate.{resultOpened}
-use Rattle.model.specs.Rows.{bytes, mostRecords, nothing, recordSize, rows, wholeRecords}
+use Rattle.model.specs.Rows.{bytes, mostRecords, nothing, rows, wholeRecords}
 use Rattle.model.specs.Sample.{abc}
 use Rattle.model.specs.Sound.{sound}
 use Rattle.model.specs.Status.{number}
@@ -61,22 +60,22 @@ book =
 abbrev resultOf : ℕ → List ℕ
 resultOf number = encode (new (kind ≔ kindResult ∷ id ≔ number ∷ n1 ≔ 2_900 ∷ when ≔ 1_000 ∷ []))
 
--- results of the three trades, and one that names none
+-- results of the three trades, one that names none, and one of a wrong length
 abbrev pub list : List (List ℕ)
-list = resultOf 11 ∷ resultOf 12 ∷ resultOf 13 ∷ resultOf 99 ∷ []
+list = resultOf 11 ∷ resultOf 12 ∷ resultOf 13 ∷ resultOf 99 ∷ (7 ∷ []) ∷ []
 
 abbrev pub area : ℕ → List ℕ
 area i = replicate 64 7
 
 abbrev pub one : List ℕ
-one = 0 ∷ 1 ∷ 2 ∷ 3 ∷ []
+one = 0 ∷ 1 ∷ 2 ∷ 3 ∷ 4 ∷ []
 
 abbrev pub other : List ℕ
-other = 3 ∷ 1 ∷ 0 ∷ 2 ∷ []
+other = 4 ∷ 3 ∷ 1 ∷ 0 ∷ 2 ∷ []
 
 -- account 1 sells before it buys
 abbrev pub swapped : List ℕ
-swapped = 2 ∷ 1 ∷ 0 ∷ 3 ∷ []
+swapped = 2 ∷ 1 ∷ 0 ∷ 3 ∷ 4 ∷ []
 
 -- ---- by computation
 whole : wholeRecords mostRecords (length book) ≡ true
@@ -87,21 +86,24 @@ right : sound (rows book) ≡ true
 unfolding resultOpened
 right = refl
 
-account-0 : accountOf book (resultOf 11) ≡ 1
+account-0 : accountOf list area book 0 ≡ 1
 unfolding resultOpened
 account-0 = refl
 
-account-1 : accountOf book (resultOf 12) ≡ 2
+account-1 : accountOf list area book 1 ≡ 2
 unfolding resultOpened
 account-1 = refl
 
-account-2 : accountOf book (resultOf 13) ≡ 1
+account-2 : accountOf list area book 2 ≡ 1
 unfolding resultOpened
 account-2 = refl
 
-account-3 : accountOf book (resultOf 99) ≡ 0
+account-3 : accountOf list area book 3 ≡ 0
 unfolding resultOpened
 account-3 = refl
+
+account-4 : accountOf list area book 4 ≡ 0
+account-4 = refl
 
 -- neither -104 nor -105
 abbrev fine : Status → Bool
@@ -139,68 +141,65 @@ unhindered given e =
       no-room = λ r m q. false≢true (sym (ap fine q) ∙ each r m);
     }
 
--- each place below four once
+-- each place below five once
 in-order : (order : List ℕ)
-    → ((i : ℕ) → count (eqb i) order ≡ bit (eqb i 0) + bit (eqb i 1) + bit (eqb i 2) + bit (eqb i 3))
-    → Order 4 order
-in-order order h i = h i ∙ go (eqb i 0) (eqb i 1) (eqb i 2) (eqb i 3) refl refl refl refl
+    → ((i : ℕ) → count (eqb i) order ≡ bit (eqb i 0) + bit (eqb i 1) + bit (eqb i 2) + bit (eqb i 3) + bit (eqb i 4))
+    → Order 5 order
+in-order order h i = h i ∙ go (eqb i 0) (eqb i 1) (eqb i 2) (eqb i 3) (eqb i 4) refl refl refl refl refl
   where
-    go : (a b c d : Bool) → eqb i 0 ≡ a → eqb i 1 ≡ b → eqb i 2 ≡ c → eqb i 3 ≡ d
-        → bit (eqb i 0) + bit (eqb i 1) + bit (eqb i 2) + bit (eqb i 3) ≡ bit (ltb i 4)
-    go true b c d ea eb ec ed = rw (eqb-true i 0 ea) refl
-    go false true c d ea eb ec ed = rw (eqb-true i 1 eb) refl
-    go false false true d ea eb ec ed = rw (eqb-true i 2 ec) refl
-    go false false false true ea eb ec ed = rw (eqb-true i 3 ed) refl
-    go false false false false ea eb ec ed =
+    go : (a b c d e : Bool) → eqb i 0 ≡ a → eqb i 1 ≡ b → eqb i 2 ≡ c → eqb i 3 ≡ d → eqb i 4 ≡ e
+        → bit (eqb i 0) + bit (eqb i 1) + bit (eqb i 2) + bit (eqb i 3) + bit (eqb i 4) ≡ bit (ltb i 5)
+    go true b c d e ea eb ec ed ee = rw (eqb-true i 0 ea) refl
+    go false true c d e ea eb ec ed ee = rw (eqb-true i 1 eb) refl
+    go false false true d e ea eb ec ed ee = rw (eqb-true i 2 ec) refl
+    go false false false true e ea eb ec ed ee = rw (eqb-true i 3 ed) refl
+    go false false false false true ea eb ec ed ee = rw (eqb-true i 4 ee) refl
+    go false false false false false ea eb ec ed ee =
         let n0 = eqb-false i 0 ea in
         let n1 = eqb-false i 1 eb in
         let n2 = eqb-false i 2 ec in
         let n3 = eqb-false i 3 ed in
-        rw (ea, eb, ec, ed, le-ltb i 4 (omega arith))
+        let n4 = eqb-false i 4 ee in
+        rw (ea, eb, ec, ed, ee, le-ltb i 5 (omega arith))
 
-order-one : Order 4 one
+order-one : Order 5 one
 unfolding count total
 order-one = in-order one (λ i. omega arith)
 
-order-other : Order 4 other
+order-other : Order 5 other
 unfolding count total
 order-other = in-order other (λ i. omega arith)
 
--- account 1 has the places 0 and 2, account 2 has the place 1, and no account has the place 3
-two-places : (p : ℕ → Bool) → p 0 ≡ p 2 → (p 0 ≡ true → p 1 ≡ false) → p 3 ≡ false → keep p one ≡ keep p other
+-- account 1 has the places 0 and 2, account 2 has the place 1, and no account has the places 3 and 4
+two-places : (p : ℕ → Bool) → p 0 ≡ p 2 → (p 0 ≡ true → p 1 ≡ false) → p 3 ≡ false → p 4 ≡ false
+    → keep p one ≡ keep p other
 unfolding keep
-two-places p e f n = go (p 0) (p 1) refl refl
+two-places p e f n m = go (p 0) (p 1) refl refl
   where
     go : (x y : Bool) → p 0 ≡ x → p 1 ≡ y → keep p one ≡ keep p other
-    go true y q r = let u = sym e ∙ q in rw (q, f q, u, n) refl
-    go false y q r = let u = sym e ∙ q in rw (q, u, n) refl
+    go true y q r = let u = sym e ∙ q in rw (q, f q, u, n, m) refl
+    go false y q r = let u = sym e ∙ q in rw (q, u, n, m) refl
 
-own-order : (a : ℕ) → (a ≡ 0 → ⊥) → ownPlaces book list a one ≡ ownPlaces book list a other
+own-order : (a : ℕ) → (a ≡ 0 → ⊥) → ownPlaces list area book a one ≡ ownPlaces list area book a other
 own-order a z =
     let is : ℕ → Bool = λ n. eqb n a in
-    two-places (λ (i : ℕ). eqb (accountOf book (getD list i [])) a)
+    two-places (λ (i : ℕ). eqb (accountOf list area book i) a)
     (ap is (account-0 ∙ sym account-2))
     (λ h.
     let e = eqb-true 1 a (sym (ap is account-0) ∙ h) in
     ap is account-1 ∙ ne-eqb 2 a (λ q. absurd (omega arith)))
     (ap is account-3 ∙ ne-eqb 0 a (λ q. z (sym q)))
-
-inputs : All (λ (input : List ℕ). length input ≡ recordSize) list
-inputs =
-    let P : List ℕ → Type 0 = λ input. length input ≡ recordSize in
-    all-more P _ _ (length-encode _)
-    (all-more P _ _ (length-encode _)
-    (all-more P _ _ (length-encode _) (all-more P _ _ (length-encode _) (all-none P))))
+    (ap is account-4 ∙ ne-eqb 0 a (λ q. z (sym q)))
 
 pub two-runs : TwoRuns book list area area one other
 two-runs = record {
-  sound = record { whole = whole; right = right };
-  inputs = inputs;
-  areas₁ = λ i. refl;
-  areas₂ = λ i. refl;
-  is-order₁ = order-one;
-  is-order₂ = order-other;
-  own-order = own-order;
+  orders = record {
+    sound = record { whole = whole; right = right };
+    same-lengths = λ i h. refl;
+    is-order₁ = order-one;
+    is-order₂ = order-other;
+    own-order = own-order;
+  };
   unhindered₁ = unhindered (replies list area book one) fine-one;
   unhindered₂ = unhindered (replies list area book other) fine-other;
 }
