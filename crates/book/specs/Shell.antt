@@ -13,15 +13,12 @@ use borrow.Author.Tests.{eqb-true, leb-true}
 use Rattle.laws.specs.Search.{every}
 use Rattle.laws.specs.Tests.{and-left, and-right}
 use Rattle.record.specs.Bytes.{Bytes}
-use Rattle.record.specs.Grid.{decode}
 use Rattle.record.specs.declared.row.Row.{Row}
-use Rattle.rules.specs.Rules.{feedInput, lookupInput, orderInput, resultInput}
+use Rattle.rules.specs.Rules.{lookupInput}
+use Rattle.model.specs.Call as calls
 use Rattle.model.specs.Call.{Promise, Reply, either, isDone, mostInputs, refusalArea, replied, run, shell}
-use Rattle.model.specs.Feed.{feed}
 use Rattle.model.specs.Lookup.{lookup}
-use Rattle.model.specs.Order.{order}
 use Rattle.model.specs.Plan.{Outcome, pick, refused}
-use Rattle.model.specs.Result.{result}
 use Rattle.model.specs.Rows.{mostRecords, recordSize, rows, wholeRecords}
 use Rattle.model.specs.Sound.{sound}
 use Rattle.model.specs.Status.{number}
@@ -146,21 +143,22 @@ module _ {lengths inputs x : Bool} {s : Status} (decide : List Row → Outcome) 
       → a″ ≡ either (isDone t) a′ (refusalArea (length a′) t) → Promise (shell lengths inputs decide b a) z b′ a″
   decides d f g h l r k = rw (replies, d) (promised (decide (rows b)) b a f g h l r k)
 
--- ---- the calls that change a book
+-- ---- the calls that change a book: each is one of the model's, and answers one record
+abbrev ruled : Call → calls.Call
+ruled Order = calls.anOrder
+ruled Result = calls.aResult
+ruled Feed = calls.aFeed
+
 abbrev pub longOf : Call → ℕ → Bool
 longOf Order n = eqb n recordSize
 longOf Result n = eqb n recordSize
 longOf Feed n = wholeRecords mostInputs n
 
 abbrev pub fieldsOf : Call → List ℕ → Bool
-fieldsOf Order input = orderInput (decode input)
-fieldsOf Result input = resultInput (decode input)
-fieldsOf Feed input = every feedInput (rows input)
+fieldsOf call input = calls.fieldsOf (ruled call) input
 
 abbrev pub decideOf : Call → List ℕ → List Row → Outcome
-decideOf Order input rs = order rs (decode input)
-decideOf Result input rs = result rs (decode input)
-decideOf Feed input rs = feed rs (rows input)
+decideOf call input rs = calls.decideOf (ruled call) input rs
 
 abbrev pub callOf : Call → List ℕ → List ℕ → List ℕ → Reply
 callOf call b input a =
