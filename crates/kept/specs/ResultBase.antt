@@ -31,8 +31,8 @@ use Rattle.model.specs.Sound.{sound}
 use Rattle.model.specs.SoundMeans.{means-s1, means-sound}
 use Rattle.shelf.specs.Put.{clean-fit, row-itself, same-rows}
 use Rattle.result.specs.Apart.{once}
-use Rattle.result.specs.Figures.{figuresSeen}
-use Rattle.result.specs.Judge.{inRange}
+use Rattle.verdict.specs.Figures.{figuresSeen}
+use Rattle.verdict.specs.Judge.{inRange}
 use Rattle.result.specs.Own
 use Rattle.result.specs.Own.{Read, Sums, added, all-own}
 use Rattle.result.specs.Posted.{reads, sumsOf, writes-once}

@@ -17,7 +17,7 @@ use Rattle.model.specs.Lots
 use Rattle.model.specs.Money.{buys, commissionOf, settlementOf, taxOf, taxable}
 use Rattle.lots.specs.Money.{commission-taken, tax-none, tax-taken}
 use Rattle.lots.specs.Walk.{Within, step-within, valueMost}
-use Rattle.result.specs.Signed.{bought-is, difference-near, sold-is, withheld-most}
+use Rattle.verdict.specs.Signed.{bought-is, difference-near, sold-is, withheld-most}
 use Rattle.kept.specs.Cases.{by-cases}
 
 -- ---- the walk's values

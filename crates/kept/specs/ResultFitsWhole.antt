@@ -20,7 +20,7 @@ use Rattle.model.specs.Result.{figures, posting, view}
 use Rattle.model.specs.Rows.{found, mostRecords}
 use Rattle.model.specs.Sound.{sound}
 use Rattle.model.specs.SoundMeans.{S1, S8}
-use Rattle.result.specs.Figures.{charge-fits, price-fits, rate-fits, rates-fit, termsOf}
+use Rattle.verdict.specs.Figures.{charge-fits, price-fits, rate-fits, rates-fit, termsOf}
 use Rattle.result.specs.Posted.{sumsOf}
 use Rattle.kept.specs.ResultBase.{Accepted}
 use Rattle.kept.specs.ResultFits.{s1-after}

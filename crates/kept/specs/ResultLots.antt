@@ -28,7 +28,7 @@ use Rattle.model.specs.SoundMeans.{LotRight, S1, S8, SummaryRight, There}
 use Rattle.result.specs.Own.{Read, Sums, added}
 use Rattle.result.specs.Rows.{closingRows, finalRows, gone, lotChanges, openingRows, summaryChanges, summaryRows}
 use Rattle.result.specs.Rows.{summedShares}
-use Rattle.result.specs.Signed.{sum-fits}
+use Rattle.verdict.specs.Signed.{sum-fits}
 use Rattle.kept.specs.ResultLotsSides.{signed-size}
 use Rattle.kept.specs.ResultLotsSigns.{count-untouched, lot-kind, lot-party, lot-symbol, not-mine, not-yours}
 use Rattle.kept.specs.ResultLotsSigns.{one-after, signs-right, sum-untouched, third}

@@ -31,7 +31,7 @@ use Rattle.model.specs.Sound.{lotOf, short, sound}
 use Rattle.shelf.specs.Put.{found-has, row-itself, same-rows}
 use Rattle.tables.specs.Names.{by-holder, by-id, by-party}
 use Rattle.result.specs.Apart.{found-live, found-member, named-there, names-account, names-broker}
-use Rattle.result.specs.Judge.{judged-outcome, judged-refused, judged-status, resultStatus}
+use Rattle.verdict.specs.Judge.{judged-outcome, judged-refused, judged-status, resultStatus}
 use Rattle.kept.specs.Bytes.{puts-length}
 use Rattle.kept.specs.Posted.{posted-puts, writes}
 use Rattle.kept.specs.ResultBase.{Accepted, accepted-all, postingOf, result-inside}

@@ -15,8 +15,8 @@ use Rattle.model.specs.Result.{signed}
 use Rattle.model.specs.Rows.{is, nothing, rows, sameRow}
 use Rattle.shelf.specs.Put.{Free, free-add}
 use Rattle.shelf.specs.Rows.{after, freeFrom}
-use Rattle.result.specs.declared.figures.Figures.{Figures}
-use Rattle.result.specs.declared.figures.Terms.{Terms}
+use Rattle.verdict.specs.declared.figures.Figures.{Figures}
+use Rattle.verdict.specs.declared.figures.Terms.{Terms}
 use Rattle.result.specs.Rows.{cashRow, finalRows, lotHistory, newLot, newSummary, openingRows, settlementRow}
 use Rattle.result.specs.Rows.{summaryRows, summedShares, tradeHistory}
 

@@ -21,8 +21,8 @@ use Rattle.model.specs.Flags.{cash}
 use Rattle.model.specs.Names.{aBroker, aSummary, aTrade, anAccount}
 use Rattle.model.specs.Rows.{hasKey, is, nothing, rows}
 use Rattle.result.specs.declared.change.Places.{Places}
-use Rattle.result.specs.declared.figures.Figures.{Figures}
-use Rattle.result.specs.declared.figures.Terms.{Terms}
+use Rattle.verdict.specs.declared.figures.Figures.{Figures}
+use Rattle.verdict.specs.declared.figures.Terms.{Terms}
 use Rattle.result.specs.Rows.{brokerAfter, gone, holding, summedShares, tradeAfter}
 
 abbrev pub placesOf : List Row → ℕ → Row → Row → Places

@@ -1,6 +1,3 @@
-pub mod Figures
-pub mod Signed
-pub mod Judge
 pub mod Rows
 pub mod Add
 pub mod Change

@@ -28,14 +28,14 @@ use Rattle.model.specs.Names.{aBroker, aSummary, aTrade, anAccount}
 use Rattle.model.specs.Rows.{found, hasKey, is, nothing, rows, sameRow, there}
 use Rattle.shelf.specs.Put.{found-has}
 use Rattle.result.specs.declared.change.Places.{Places}
-use Rattle.result.specs.declared.figures.Figures as code
-use Rattle.result.specs.declared.figures.Terms.{Terms}
+use Rattle.verdict.specs.declared.figures.Figures as code
+use Rattle.verdict.specs.declared.figures.Terms.{Terms}
 use Rattle.result.specs.Add.{Added, ownAdded}
 use Rattle.result.specs.Apart.{found-kind, found-live, found-member, named-there, names-account, names-broker}
 use Rattle.result.specs.Close.{closed}
-use Rattle.result.specs.Judge.{Passed, inRange, resultRows}
+use Rattle.verdict.specs.Judge.{Passed, inRange, resultRows}
 use Rattle.result.specs.Posted.{posted-by-place}
-use Rattle.result.specs.Figures.{figuresOf, termsOf, trade-shares}
+use Rattle.verdict.specs.Figures.{figuresOf, termsOf, trade-shares}
 use Rattle.result.specs.Change.{accountPut, changePuts, placesOf, summaryFree, summaryPut}
 use Rattle.result.specs.Place.{frees, placed, spot}
 use Rattle.result.specs.Rows.{accountChanges, brokerAfter, closedLots, closingRows, gone, holding, lotChanges}

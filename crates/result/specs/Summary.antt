@@ -28,8 +28,8 @@ use Rattle.model.specs.SoundMeans.{means-sound}
 use Rattle.shelf.specs.Put.{found-none}
 use Rattle.shelf.specs.Rows.{length-rows}
 use Rattle.result.specs.Apart.{found-kind, found-member}
-use Rattle.result.specs.Figures.{termsOf}
-use Rattle.result.specs.declared.figures.Terms.{Terms}
+use Rattle.verdict.specs.Figures.{termsOf}
+use Rattle.verdict.specs.declared.figures.Terms.{Terms}
 
 -- ---- the size of a sum
 size-parts : (z : ℤ) → natAbs z ≡ up z + dn z

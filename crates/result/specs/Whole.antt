@@ -14,11 +14,11 @@ use Rattle.model.specs.Rows.{mostRecords, recordSize, rows, wholeRecords}
 use Rattle.model.specs.declared.Status.{Status}
 use Rattle.reply.specs.Left.{answerLeft, bookLeft, left-accepted, left-refused}
 use Rattle.shelf.specs.Rows.{putAt}
-use Rattle.result.specs.declared.figures.Figures.{Figures}
-use Rattle.result.specs.declared.figures.Terms.{Terms}
-use Rattle.result.specs.Figures.{figuresOf, termsOf}
-use Rattle.result.specs.Judge.{Passed, judged, judged-outcome, judged-refused, judged-status, passed-all}
-use Rattle.result.specs.Judge.{resultRows, resultStatus}
+use Rattle.verdict.specs.declared.figures.Figures.{Figures}
+use Rattle.verdict.specs.declared.figures.Terms.{Terms}
+use Rattle.verdict.specs.Figures.{figuresOf, termsOf}
+use Rattle.verdict.specs.Judge.{Passed, judged, judged-outcome, judged-refused, judged-status, passed-all}
+use Rattle.verdict.specs.Judge.{resultRows, resultStatus}
 use Rattle.result.specs.Rows.{answerRow}
 
 abbrev pub answerOf : Terms → Figures → Row

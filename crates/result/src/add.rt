@@ -9,16 +9,11 @@ ghost use Rattle.rules.specs.Ranges;
 ghost use Rattle.shelf.specs.Put.{Free};
 ghost use Rattle.result.specs.Add.{Added, ownAdded};
 ghost use Rattle.result.specs.Rows.{finalRows, openingRows, summaryRows};
-use crate::figures::Figures;
-use crate::figures::Terms;
-use crate::figures::is_cash;
 use crate::rows::cash_row;
 use crate::rows::lot_history;
 use crate::rows::new_lot;
 use crate::rows::new_summary;
 use crate::rows::settlement_row;
-use crate::signed::summed;
-use crate::signed::traded;
 use kinds::units::Cents;
 use kinds::units::Price;
 use kinds::units::Shares;
@@ -28,6 +23,11 @@ use record::codes::TradeStatus;
 use record::row::Row;
 use shelf::history::history;
 use shelf::put::add;
+use verdict::figures::Figures;
+use verdict::figures::Terms;
+use verdict::figures::is_cash;
+use verdict::signed::summed;
+use verdict::signed::traded;
 
 // Shares left over open a new lot.
 fn add_opened(book: &mut [u8], from: usize, trade: Row, price: Price, left: u64, time: u32) -> usize

@@ -11,14 +11,10 @@ ghost use Rattle.model.specs.Rows.{rows};
 ghost use Rattle.tables.specs.Bucket.{keyBucket};
 ghost use Rattle.tables.specs.Table.{Indexed};
 ghost use Rattle.result.specs.Change.{accountPut, changePuts, placesOf, summaryFree, summaryPut};
-use crate::figures::Figures;
-use crate::figures::Terms;
-use crate::figures::is_cash;
 use crate::rows::account_after;
 use crate::rows::broker_after;
 use crate::rows::holding;
 use crate::rows::trade_after;
-use crate::signed::summed;
 use kinds::units::Cents;
 use kinds::units::Shares;
 use record::codes::Kind;
@@ -29,6 +25,10 @@ use tables::table::Slots;
 use tables::table::by_holder;
 use tables::table::by_id;
 use tables::table::by_party;
+use verdict::figures::Figures;
+use verdict::figures::Terms;
+use verdict::figures::is_cash;
+use verdict::signed::summed;
 
 // Where the rows of a result stand, but for its lots.
 pub struct Places {

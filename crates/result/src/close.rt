@@ -25,7 +25,6 @@ ghost use Rattle.result.specs.Places.{lotPlace};
 ghost use Rattle.result.specs.Rows.{closedLots, closingRows, lotChanges};
 use crate::rows::holding;
 use crate::rows::lot_history;
-use crate::signed::remaining;
 use kinds::units::Shares;
 use lots::lots::gather;
 use lots::walk::left;
@@ -42,6 +41,7 @@ use tables::table::Slots;
 use tables::table::by_id;
 use tables::table::narrow;
 use tables::table::wide;
+use verdict::signed::remaining;
 
 // Turns the numbers of lots into their places.
 fn find_lots(

@@ -13,15 +13,9 @@ ghost use Rattle.tables.specs.Table.{Indexed};
 mod add;
 mod change;
 mod close;
-pub mod figures;
-pub mod judge;
 mod post;
 mod rows;
-mod signed;
 
-use crate::figures::figured;
-use crate::figures::terms_of;
-use crate::judge::judge;
 use crate::post::post;
 use crate::rows::answer_row;
 use model::Status;
@@ -29,6 +23,9 @@ use record::row::Row;
 use reply::done;
 use shelf::put::put;
 use tables::table::Slots;
+use verdict::figures::figured;
+use verdict::figures::terms_of;
+use verdict::judge::judge;
 
 // What a result gives on a book that is sound: the book and the answer of the rules, and where it is refused both areas
 // as they were.

@@ -7,8 +7,8 @@ ghost use Rattle.model.specs.Rows.{rows};
 ghost use Rattle.model.specs.Sound.{sound};
 ghost use Rattle.tables.specs.Bucket.{keyBucket};
 ghost use Rattle.tables.specs.Table.{Indexed};
-ghost use Rattle.result.specs.Figures.{figuresOf, termsOf};
-ghost use Rattle.result.specs.Judge.{Passed, resultRows};
+ghost use Rattle.verdict.specs.Figures.{figuresOf, termsOf};
+ghost use Rattle.verdict.specs.Judge.{Passed, resultRows};
 use crate::add::add_own;
 use crate::change::change;
 use crate::change::find_places;
@@ -17,13 +17,13 @@ use crate::close::add_closings;
 use crate::close::free_lots;
 use crate::close::lot_places;
 use crate::close::reduce;
-use crate::figures::Figures;
-use crate::figures::Terms;
 use queue::Queue;
 use record::codes::Kind;
 use record::row::Row;
 use tables::table::Slots;
 use tables::table::party_row;
+use verdict::figures::Figures;
+use verdict::figures::Terms;
 
 pub fn post(book: &mut [u8], keys: &[u16; Slots::ALL], input: Row, terms: Terms, figures: Figures)
     requires { ⌜ Indexed keyBucket (now book) (now keys) 0 ⌝ }

@@ -8,7 +8,6 @@ ghost use Rattle.rules.specs.Ranges;
 ghost use Rattle.model.specs.Edit.{bits32};
 ghost use Rattle.result.specs.Rows.{answerRow, brokerAfter, cashRow, holding, lotHistory, newLot, newSummary};
 ghost use Rattle.result.specs.Rows.{settlementRow, tradeAfter};
-use crate::figures::Figures;
 use kinds::units::Cents;
 use kinds::units::Price;
 use kinds::units::Shares;
@@ -19,6 +18,7 @@ use record::codes::TradeStatus;
 use record::row::Row;
 use reply::in_symbol;
 use shelf::place::nothing;
+use verdict::figures::Figures;
 
 struct Due {}
 

@@ -1,7 +1,7 @@
 -- Each row goes where the rules have it: what is added first, then what is changed and freed. Assumes nothing.
 use Rattle.shelf.specs.Put.{free-start}
 use Rattle.tables.specs.Found.{sound-s1, sound-s2}
-use Rattle.result.specs.Figures.{trade-shares}
+use Rattle.verdict.specs.Figures.{trade-shares}
 use Rattle.result.specs.Post.{all-posted, broker-fits, left-fits, time-fits}
 use Rattle.result.specs.Summary.{few-rows, summary-seen}
 use borrow.Author.Needs.{needs}

@@ -1,0 +1,108 @@
+// What a result is refused for, in the order of checking.
+ghost use mathlib.Core.Bool.{cond, true};
+ghost use mathlib.Core.Path.{_≡_};
+ghost use Prim.Native.Nat.{_≤_};
+ghost use lib.Dec.{leb};
+ghost use lib.IntN.{natAbs};
+ghost use Rattle.record.specs.Signed.{up};
+ghost use Rattle.rules.specs.Ranges.{fee, moneyMost};
+ghost use Rattle.model.specs.Rows.{rows};
+ghost use Rattle.model.specs.Sound.{s2};
+ghost use Rattle.tables.specs.Bucket.{keyBucket};
+ghost use Rattle.tables.specs.Table.{Indexed};
+ghost use Rattle.verdict.specs.Judge.{inRange, judged, ownRows, rowsAdded};
+use crate::figures::Figures;
+use crate::figures::Terms;
+use crate::figures::is_cash;
+use kinds::limits::Ranges;
+use kinds::rows::Broker;
+use kinds::units::Cents;
+use kinds::units::Shares;
+use lots::lots::closed;
+use lots::units::in_cents;
+use lots::units::in_shares;
+use model::Status;
+use record::bytes::bits64;
+use record::codes::Kind;
+use record::codes::TradeStatus;
+use record::row::Row;
+use rules::limited::near64;
+use shelf::count::room;
+use tables::table::Slots;
+use tables::table::party_row;
+
+// The most trades and the highest commission total of a broker.
+struct Most {}
+
+impl Most {
+    const TRADES: u32 = Broker::LIMITS.n1.1;
+
+    const TOTAL: u64 = Broker::LIMITS.m1.1;
+}
+
+fn near(balance: Cents) -> bool
+    ensures { λ r. ⌜ r ≡ leb (natAbs (balance .0)) moneyMost ⌝ }
+{
+    near64(bits64(balance.0), Ranges::MONEY_MOST)
+}
+
+// The balance, the broker's trades and its commission total stay in their ranges.
+fn in_range(broker: Row, figures: Figures) -> bool
+    requires { ⌜ up (figures .commission .0) ≤ fee .high ⌝ }
+    ensures { λ r. ⌜ r ≡ inRange broker figures ⌝ }
+{
+    let most = Most::TOTAL - in_cents(figures.commission);
+    near(figures.balance) & (broker.n1 < Most::TRADES) & (broker.m1 <= most)
+}
+
+fn either(test: bool, a: usize, b: usize) -> usize
+    requires { ⌜ (a ≤ 2) × (b ≤ 2) ⌝ }
+    ensures { λ r. ⌜ (r ≡ cond test a b) × (r ≤ 2) ⌝ }
+{
+    if test { a } else { b }
+}
+
+// The rows that a result adds beside those of its lots: two for shares left over, a new summary, the trade's history,
+// its settlement, and cash for a cash trade.
+fn own_rows(trade: Row, summary: Row, left: u64) -> usize
+    ensures { λ r. ⌜ (r ≡ ownRows trade summary left) × (r ≤ 8) ⌝ }
+{
+    let opened = either(left == 0, 0, 2);
+    let fresh = either(summary.kind == Kind::FREE, 1, 0);
+    opened + fresh + 2 + either(is_cash(trade.flags), 1, 0)
+}
+
+fn rows_added(book: &[u8], keys: &[u16; Slots::ALL], terms: Terms, left: Shares) -> usize
+    requires { ⌜ Indexed keyBucket (now book) (now keys) 0 ⌝ }
+    requires { ⌜ s2 (rows (now book)) ≡ true ⌝ }
+    ensures { λ r. ⌜ r ≡ rowsAdded (rows (now (book .entry))) (terms .trade) (terms .summary) (up (left .0)) ⌝ }
+{
+    closed(book, keys, terms.trade) + own_rows(terms.trade, terms.summary, in_shares(left))
+}
+
+pub fn judge(book: &[u8], keys: &[u16; Slots::ALL], terms: Terms, figures: Figures) -> Status
+    requires { ⌜ Indexed keyBucket (now book) (now keys) 0 ⌝ }
+    requires { ⌜ (s2 (rows (now book)) ≡ true) × (up (figures .commission .0) ≤ fee .high) ⌝ }
+    ensures { λ s. ⌜ s ≡ judged (rows (now (book .entry))) terms figures ⌝ }
+{
+    if terms.trade.kind == Kind::FREE {
+        return Status::ResultNoTrade;
+    }
+    if terms.trade.status != TradeStatus::SUBMITTED {
+        return Status::ResultNotSubmitted;
+    }
+    if figures.untaxed {
+        return Status::ResultNoTax;
+    }
+    if terms.rate.0 == 0 {
+        return Status::ResultNoRate;
+    }
+    let broker = party_row(book, keys, Kind::BROKER, terms.account.n1);
+    if in_range(broker, figures) {
+        if room(book) < rows_added(book, keys, terms, figures.walk.need) {
+            return Status::NoRoom;
+        }
+        return Status::Done;
+    }
+    Status::OverLimit
+}
