@@ -41,6 +41,32 @@ le-8 l a = let e : a + 4 ≡ a + 1 + 1 + 1 + 1 = omega arith in rw e (omega arit
 pub be-8 : (l : List ℕ) (a : ℕ) → be 8 l a ≡ be 4 l a * 4294967296 + be 4 l (a + 4)
 be-8 l a = let e : a + 4 ≡ a + 1 + 1 + 1 + 1 = omega arith in rw e (omega arith)
 
+-- a number of four bytes, in the other order
+abbrev pub turned : ℕ → ℕ
+turned x = x % 256 * 16777216 + x / 256 % 256 * 65536 + x / 65536 % 256 * 256 + x / 16777216
+
+pub turned-le : (a b c d : ℕ) → a < 256 → b < 256 → c < 256 → d < 256
+    → turned (a + 256 * (b + 256 * (c + 256 * d))) ≡ a * 16777216 + (b * 65536 + (c * 256 + d))
+turned-le a b c d ha hb hc hd =
+    let x = a + 256 * (b + 256 * (c + 256 * d)) in
+    let e : x % 256 ≡ a = omega arith in
+    let f : x / 256 ≡ b + 256 * (c + 256 * d) = omega arith in
+    let g : (b + 256 * (c + 256 * d)) % 256 ≡ b = omega arith in
+    let h : x / 65536 ≡ c + 256 * d = omega arith in
+    let k : (c + 256 * d) % 256 ≡ c = omega arith in
+    let m : x / 16777216 ≡ d = omega arith in
+    rw (e, f, g, h, k, m) (omega arith)
+
+pub turned-at : (l : List ℕ) (a : ℕ) → Bytes l → turned (le 4 l a) ≡ be 4 l a
+turned-at l a h =
+    let x = getD l a 0 in
+    let y = getD l (a + 1) 0 in
+    let z = getD l (a + 1 + 1) 0 in
+    let w = getD l (a + 1 + 1 + 1) 0 in
+    let e : le 4 l a ≡ x + 256 * (y + 256 * (z + 256 * w)) = omega arith in
+    let f : x * 16777216 + (y * 65536 + (z * 256 + w)) ≡ be 4 l a = omega arith in
+    rw e (turned-le x y z w (h a) (h (a + 1)) (h (a + 1 + 1)) (h (a + 1 + 1 + 1)) ∙ f)
+
 -- l with the w bytes of x at `at`: shut, so that a run of stores is a term that `cc` follows
 unfoldable pub stored : List ℕ → ℕ → ℕ → ℕ → List ℕ
 stored l at w x = sets l at (bytesOf w x)

@@ -5,7 +5,7 @@ ghost use Prim.Native.Nat.{_+_, _<_, _≤_};
 ghost use lib.ListN.{length};
 ghost use mir.Syntax.{w32, w64};
 ghost use mir.Val.{ofZ, toZ};
-ghost use Rattle.record.specs.Bytes.{be, le, spelt};
+ghost use Rattle.record.specs.Bytes.{be, le, spelt, turned};
 
 fn wide8(x: u8) -> u32
     ensures { λ r. ⌜ (r ≡ x) × (r < 256) ⌝ }
@@ -27,10 +27,8 @@ pub fn u32_at(part: &[u8], at: usize) -> u32
     let a1 = at + 1;
     let a2 = a1 + 1;
     let a3 = a2 + 1;
-    let b3 = wide8(part[a3]);
-    let b2 = wide8(part[a2]) + 256 * b3;
-    let b1 = wide8(part[a1]) + 256 * b2;
-    wide8(part[at]) + 256 * b1
+    let low = wide8(part[at]) + wide8(part[a1]) * 256;
+    low + wide8(part[a2]) * 65536 + wide8(part[a3]) * 16777216
 }
 
 // The number of the eight bytes at a place.
@@ -42,16 +40,19 @@ pub fn u64_at(part: &[u8], at: usize) -> u64
     wide32(u32_at(part, at)) + 4294967296 * high
 }
 
-// The number of four bytes, the first one highest.
+// The number with its four bytes in the other order.
+fn turned(x: u32) -> u32
+    ensures { λ r. ⌜ r ≡ turned x ⌝ }
+{
+    x % 256 * 16777216 + x / 256 % 256 * 65536 + x / 65536 % 256 * 256 + x / 16777216
+}
+
+// The number of four bytes, the first one highest: turned, so that four bytes are one load.
 fn high_at(part: &[u8], at: usize) -> u32
     requires { ⌜ at + 4 ≤ length (now part) ⌝ }
     ensures { λ r. ⌜ r ≡ be 4 (now (part .entry)) at ⌝ }
 {
-    let a1 = at + 1;
-    let a2 = a1 + 1;
-    let a3 = a2 + 1;
-    let b1 = wide8(part[at]) * 16777216 + wide8(part[a1]) * 65536;
-    b1 + wide8(part[a2]) * 256 + wide8(part[a3])
+    turned(u32_at(part, at))
 }
 
 // The eight bytes of a symbol, the first one highest, so that numbers are ordered as the bytes are.

@@ -29,15 +29,11 @@ use Rattle.model.specs.Rows.{found, hasKey, is, nothing, sameRow, there}
 use Rattle.model.specs.Sound.{lotOf, short, sound}
 use Rattle.model.specs.SoundMeans.{SoundBook, means-sound}
 use Rattle.shelf.specs.Put.{found-has, found-none, row-itself, same-rows}
+use Rattle.tables.specs.Names.{other-kind}
 use Rattle.result.specs.Place.{placed, spot}
 use Rattle.result.specs.Rows.{brokerAfter, holding, tradeAfter}
 
 -- ---- keys and kinds
--- a row of another kind has another key
-pub other-kind : (o r : Row) → eqb (r .kind) (o .kind) ≡ false → hasKey (keyOf o) r ≡ false
-unfolding hasKey sameKey keyOf
-other-kind o r e = rw e
-
 pub key-kind : (k : Key) (r : Row) → hasKey k r ≡ true → r .kind ≡ k .kind
 unfolding hasKey keyOf
 key-kind k r e = ap (λ (x : Key). x .kind) (same-keys (keyOf r) k e)

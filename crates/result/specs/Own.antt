@@ -24,7 +24,8 @@ use Rattle.model.specs.Result.{leftOf, signed}
 use Rattle.model.specs.Rows.{found, hasKey, is, nothing}
 use Rattle.model.specs.Sound.{sound}
 use Rattle.model.specs.SoundMeans.{means-sound}
-use Rattle.result.specs.Apart.{Turned, broker-key, changes, goes, holding-key, of-live, other-kind, trade-key}
+use Rattle.tables.specs.Names.{other-kind}
+use Rattle.result.specs.Apart.{Turned, broker-key, changes, goes, holding-key, of-live, trade-key}
 use Rattle.result.specs.Place.{frees}
 use Rattle.result.specs.Rows.{accountChanges, brokerAfter, closedLots, closingRows, finalRows, gone, holding}
 use Rattle.result.specs.Rows.{lotChanges, lotHistory, newLot, newSummary, openingRows, reduced, summaryChanges}

@@ -1,7 +1,7 @@
 -- In a book that keeps S2 a key stands once or not at all, so that what is counted by a key is what the one row says.
 -- Assumes nothing.
 use mathlib.Core.Path.{_≡_, refl, sym, ap, _∙_}
-use mathlib.Core.Bool.{Bool, true, false, _&&_}
+use mathlib.Core.Bool.{Bool, true, false, _&&_, false≢true}
 use mathlib.Core.List.{List, [], _∷_}
 use Prim.Native.Nat.{ℕ, _+_}
 use native.Mathlib.Nat.{zero-add}
@@ -12,7 +12,7 @@ use borrow.Author.Tests.{eq-eqb, eqb-true, ne-eqb, leb-false, ltb-true, ltb-fals
 use Rattle.laws.specs.Search.{bit, count, place, the, total}
 use Rattle.laws.specs.Tests.{or-else}
 use Rattle.laws.specs.Walk.{from-holds}
-use Rattle.record.specs.Codes.{kindFree}
+use Rattle.record.specs.Codes.{completed, kindFree}
 use Rattle.record.specs.Key.{keyOf}
 use Rattle.record.specs.KeyLaws.{same-keys}
 use Rattle.record.specs.declared.key.Key.{Key}
@@ -48,6 +48,14 @@ found-kind k rs n = go (there k rs) refl
         let q : found k rs .kind ≡ k .kind = ap (λ (x : Key). x .kind) (found-key k rs e) in
         rw (q, e) (eq-eqb (k .kind) (k .kind) refl)
     go false e = rw (found-none k rs e, e) (ne-eqb 0 (k .kind) (λ q. n (sym q)))
+
+-- and so does a status that a row that is not there does not have
+pub done-there : (k : Key) (rs : List Row) → eqb (found k rs .status) completed ≡ true → there k rs ≡ true
+done-there k rs h = go (there k rs) refl
+  where
+    go : (t : Bool) → there k rs ≡ t → there k rs ≡ true
+    go true e = e
+    go false e = absurd (false≢true (rw (found-none k rs e) at h))
 
 module _ (rs : List Row) (unique : s2 rs ≡ true) (k : Key) (named : k .kind ≡ kindFree → ⊥) where
   there-once : there k rs ≡ true → count (hasKey k) rs ≡ 1

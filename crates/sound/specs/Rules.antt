@@ -12,7 +12,7 @@ use mir.Val.{toZ}
 use borrow.Author.Tests.{eq-eqb, eqb-true, eqb-false, leb-true, leb-false, ne-eqb}
 use Rattle.laws.specs.Search.{bit, count, every, sumZ, total}
 use Rattle.laws.specs.Tests.{_⇔_, and-assoc, and-true}
-use Rattle.record.specs.Codes.{completed, kindRequest, pending, tlb}
+use Rattle.record.specs.Codes.{completed, kindRequest, kindTrade, pending, tlb}
 use Rattle.record.specs.Signed.{up, dn, parts-add, leZ-is}
 use Rattle.record.specs.declared.key.Key.{Key}
 use Rattle.record.specs.declared.row.Row.{Row}
@@ -182,3 +182,12 @@ module _ (rs : List Row) (unique : s2 rs ≡ true) where
       → (eqb (s .flags) (t .flags % 2) && eqb y (s .flags)) ≡ settlementRight rs s
   settlement-is s {t} h k e =
       rw (← h, once rs unique (aCash (s .id)) (λ q. omega arith), ← k, ← e, ← low-bit (t .flags))
+
+  -- and the trade is there
+  pub settlement-there : (s : Row) {t : Row} {x : Bool} {y : ℕ} → t ≡ found (aTrade (s .id)) rs
+      → x ≡ there (aCash (s .id)) rs → y ≡ bit x
+      → (is kindTrade t && (eqb (s .flags) (t .flags % 2) && eqb y (s .flags)))
+      ≡ (there (aTrade (s .id)) rs && settlementRight rs s)
+  settlement-there s {t} h k e =
+      let z : is kindTrade t ≡ there (aTrade (s .id)) rs = rw h (found-kind (aTrade (s .id)) rs (λ q. omega arith)) in
+      rw (z, settlement-is s h k e)

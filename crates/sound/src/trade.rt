@@ -1,9 +1,10 @@
 // What is beside a trade: its request (S6), its settlement and cash (S9), and the trades of a lot
 // history (S10).
 ghost use mathlib.Core.Path.{_≡_};
-ghost use mathlib.Core.Bool.{true};
+ghost use mathlib.Core.Bool.{_&&_, true};
 ghost use Rattle.laws.specs.Search.{bit};
-ghost use Rattle.model.specs.Rows.{rows};
+ghost use Rattle.model.specs.Names.{aTrade};
+ghost use Rattle.model.specs.Rows.{rows, there};
 ghost use Rattle.model.specs.Sound.{cashRight, requestRight, s2, settled, settlementRight};
 ghost use Rattle.model.specs.Sound.{tradesDone};
 ghost use Rattle.tables.specs.Bucket.{keyBucket};
@@ -59,14 +60,18 @@ fn one(b: bool) -> u8
     if b { 1 } else { 0 }
 }
 
+// A settlement is of a trade that is there, and agrees with it and with its cash.
 pub fn paid(book: &[u8], keys: &[u16; Slots::ALL], s: Row) -> bool
     requires { ⌜ Indexed keyBucket (now book) (now keys) 0 ⌝ }
     requires { ⌜ s2 (rows (now book)) ≡ true ⌝ }
-    ensures { λ b. ⌜ b ≡ settlementRight (rows (now (book .entry))) s ⌝ }
+    ensures { λ b.
+        let rs = rows (now (book .entry)) in
+        ⌜ b ≡ (there (aTrade (s .id)) rs && settlementRight rs s) ⌝ }
 {
     let t = id_row(book, keys, Kind::TRADE, s.id);
     let paid = id_there(book, keys, Kind::CASH, s.id);
-    (s.flags == t.flags % 2) & (one(paid) == s.flags)
+    let agreed = (s.flags == t.flags % 2) & (one(paid) == s.flags);
+    (t.kind == Kind::TRADE) & agreed
 }
 
 pub fn due(book: &[u8], keys: &[u16; Slots::ALL], c: Row) -> bool

@@ -15,7 +15,6 @@ use crate::holding::apart;
 use crate::holding::held;
 use crate::holding::rates_fit;
 use crate::holding::summed;
-use crate::names::names_known;
 use crate::trade::done;
 use crate::trade::due;
 use crate::trade::paid;
@@ -31,7 +30,10 @@ use shelf::place::row_at;
 use tables::sums::historied;
 use tables::table::Slots;
 use tables::table::build;
+use tables::table::id_there;
 use tables::table::narrow;
+use tables::table::party_there;
+use tables::table::security_there;
 
 // The most records of a book, and of an input.
 pub struct Most {}
@@ -65,34 +67,57 @@ fn trade_right(book: &[u8], keys: &[u16; Slots::ALL], t: Row) -> bool
     requested(book, keys, t) & historied(book, keys, t.id, t.status) & settled(book, keys, t)
 }
 
-// S4 to S10 of a row.
-fn kind_right(book: &[u8], keys: &[u16; Slots::ALL], steady: &[u16; Slots::ALL], r: Row) -> bool
-    requires { ⌜ Indexed keyBucket (now book) (now keys) 0 ⌝ }
-    requires { ⌜ Indexed steadyBucket (now book) (now steady) 0 ⌝ }
-    requires { ⌜ (s1 (rows (now book)) ≡ true) × (s2 (rows (now book)) ≡ true) ⌝ }
-    ensures { λ b. ⌜ b ≡ kindRight (rows (now (book .entry))) r ⌝ }
-{
-    let kind = r.kind;
-    match kind {
-        Kind::CUSTOMER => rates_fit(book, keys, r),
-        Kind::BAND => apart(book, keys, r),
-        Kind::TRADE => trade_right(book, keys, r),
-        Kind::LOT => held(book, keys, r),
-        Kind::SUMMARY => summed(book, steady, r),
-        Kind::LOT_HISTORY => done(book, keys, r),
-        Kind::SETTLEMENT => paid(book, keys, r),
-        Kind::CASH => due(book, keys, r),
-        _ => true,
-    }
-}
-
+// S3 to S10 of a row. What a rule tells is not looked for again: lots and lot histories are of trades that are
+// completed, so these are in the book.
 fn right(book: &[u8], keys: &[u16; Slots::ALL], steady: &[u16; Slots::ALL], r: Row) -> bool
     requires { ⌜ Indexed keyBucket (now book) (now keys) 0 ⌝ }
     requires { ⌜ Indexed steadyBucket (now book) (now steady) 0 ⌝ }
     requires { ⌜ (s1 (rows (now book)) ≡ true) × (s2 (rows (now book)) ≡ true) ⌝ }
     ensures { λ b. ⌜ b ≡ rowRight (rows (now (book .entry))) r ⌝ }
 {
-    names_known(book, keys, steady, r) & kind_right(book, keys, steady, r)
+    let kind = r.kind;
+    match kind {
+        Kind::FREE => true,
+        Kind::BROKER => true,
+        Kind::CUSTOMER => rates_fit(book, keys, r),
+        Kind::TAX_RATE => true,
+        Kind::CUSTOMER_RATE => {
+            party_there(book, keys, Kind::CUSTOMER, r.party)
+                & party_there(book, keys, Kind::TAX_RATE, r.n1)
+        }
+        Kind::ACCOUNT => {
+            party_there(book, keys, Kind::BROKER, r.n1)
+                & party_there(book, keys, Kind::CUSTOMER, r.n2)
+        }
+        Kind::SECURITY => true,
+        Kind::BAND => apart(book, keys, r),
+        Kind::CHARGE => true,
+        Kind::TRADE => {
+            party_there(book, keys, Kind::ACCOUNT, r.party)
+                & security_there(book, steady, r.symbol)
+                & trade_right(book, keys, r)
+        }
+        Kind::REQUEST => {
+            id_there(book, keys, Kind::TRADE, r.id)
+                & party_there(book, keys, Kind::BROKER, r.party)
+                & security_there(book, steady, r.symbol)
+        }
+        Kind::TRADE_HISTORY => id_there(book, keys, Kind::TRADE, r.id),
+        Kind::LOT => {
+            party_there(book, keys, Kind::ACCOUNT, r.party)
+                & security_there(book, steady, r.symbol)
+                & held(book, keys, r)
+        }
+        Kind::SUMMARY => {
+            party_there(book, keys, Kind::ACCOUNT, r.party)
+                & security_there(book, steady, r.symbol)
+                & summed(book, steady, r)
+        }
+        Kind::LOT_HISTORY => done(book, keys, r),
+        Kind::SETTLEMENT => paid(book, keys, r),
+        Kind::CASH => id_there(book, keys, Kind::TRADE, r.id) & due(book, keys, r),
+        _ => true,
+    }
 }
 
 fn all_right(book: &[u8], keys: &[u16; Slots::ALL], steady: &[u16; Slots::ALL]) -> bool

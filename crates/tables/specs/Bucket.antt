@@ -14,13 +14,16 @@ use Rattle.model.specs.Rows.{is}
 
 -- the number of buckets; the last is that of the rows that a table does not list
 abbrev pub headCount : ℕ
-headCount = 8_193
+headCount = 4_097
+
+unfoldable pub spread : ℕ → ℕ
+spread id = id % 4_294_967_296 * 287_203_101 + id / 4_294_967_296 * 201_023_173
 
 unfoldable pub bucketOf : ℕ → ℕ → ℕ → ℕ → ℕ → ℕ → ℕ
 bucketOf kind form flags party id symbol =
-    cond (eqb kind kindFree) 8_192
-    (((kind + form * 256 + flags * 65_536) * 506_952_119 + party * 316_542_083 + (id % 4_294_967_296) * 506_952_113
-    + (symbol / 4_294_967_296 + symbol % 4_294_967_296) * 401_236_177) % 4_294_967_296 / 524_288)
+    cond (eqb kind kindFree) 4_096
+    (((kind + form * 256 + flags * 65_536) * 442_130_567 + party * 277_607_845 + spread id
+    + (symbol / 4_294_967_296 + symbol % 4_294_967_296) * 168_287_865) % 4_294_967_296 / 1_048_576)
 
 abbrev pub bucketOfKey : Key → ℕ
 bucketOfKey k = bucketOf (k .kind) (k .form) (k .flags) (k .party) (k .id) (k .symbol)
@@ -33,18 +36,18 @@ unfoldable pub steadyBucket : Row → ℕ
 steadyBucket r =
     cond (is kindLot r) (bucketOf kindLot 0 0 (r .party) 0 (r .symbol))
     (cond (is kindTrade r) (bucketOf kindTrade 0 0 0 (r .id) 0)
-    (cond (is kindSecurity r) (bucketOf kindSecurity 0 0 0 0 (r .symbol)) 8_192))
+    (cond (is kindSecurity r) (bucketOf kindSecurity 0 0 0 0 (r .symbol)) 4_096))
 
-pub no-bucket : {k : ℕ} (f g p i s : ℕ) → k ≡ 0 → 8_192 ≡ bucketOf k f g p i s
+pub no-bucket : {k : ℕ} (f g p i s : ℕ) → k ≡ 0 → 4_096 ≡ bucketOf k f g p i s
 unfolding bucketOf
 no-bucket f g p i s e = rw e
 
-pub a-bucket : {k f g p a b c d : ℕ} (i s : ℕ) → (k ≡ 0 → ⊥) → a ≡ k → b ≡ f → c ≡ g → d ≡ p
-    → (((a + b * 256 + c * 65_536) * 506_952_119 + d * 316_542_083 + (i % 4_294_967_296) * 506_952_113
-    + (s / 4_294_967_296 + s % 4_294_967_296) * 401_236_177) % 4_294_967_296 / 524_288)
+pub a-bucket : {k f g p a b c d e : ℕ} (i s : ℕ) → (k ≡ 0 → ⊥) → a ≡ k → b ≡ f → c ≡ g → d ≡ p → e ≡ spread i
+    → (((a + b * 256 + c * 65_536) * 442_130_567 + d * 277_607_845 + e
+    + (s / 4_294_967_296 + s % 4_294_967_296) * 168_287_865) % 4_294_967_296 / 1_048_576)
     ≡ bucketOf k f g p i s
 unfolding bucketOf
-a-bucket {k} i s n ea eb ec ed = rw (ea, eb, ec, ed, ne-eqb k 0 n)
+a-bucket {k} i s n ea eb ec ed ee = rw (ea, eb, ec, ed, ee, ne-eqb k 0 n)
 
 module _ (r : Row) where
   pub of-lot : {x : ℕ} → r .kind ≡ kindLot → x ≡ bucketOf kindLot 0 0 (r .party) 0 (r .symbol) → x ≡ steadyBucket r
@@ -61,7 +64,7 @@ module _ (r : Row) where
   of-security e h = h ∙ rw e
 
   pub of-none : (r .kind ≡ kindLot → ⊥) → (r .kind ≡ kindTrade → ⊥) → (r .kind ≡ kindSecurity → ⊥)
-      → 8_192 ≡ steadyBucket r
+      → 4_096 ≡ steadyBucket r
   unfolding steadyBucket
   of-none l t s = rw (ne-eqb (r .kind) kindLot l, ne-eqb (r .kind) kindTrade t, ne-eqb (r .kind) kindSecurity s)
 
@@ -80,14 +83,14 @@ abbrev steadyKinds : List ℕ
 steadyKinds = kindLot ∷ kindTrade ∷ kindSecurity ∷ []
 
 -- the last bucket for any other kind; at a kind that is a numeral the second premise is `refl`
-pub steady-none : (r : Row) {k : ℕ} → r .kind ≡ k → among k steadyKinds ≡ false → steadyBucket r ≡ 8_192
+pub steady-none : (r : Row) {k : ℕ} → r .kind ≡ k → among k steadyKinds ≡ false → steadyBucket r ≡ 4_096
 unfolding steadyBucket
 steady-none r {k} e n = rw e (go (eqb k kindLot) (eqb k kindTrade) (eqb k kindSecurity) refl refl refl)
   where
     go : (l t s : Bool) → eqb k kindLot ≡ l → eqb k kindTrade ≡ t → eqb k kindSecurity ≡ s
         → cond (eqb k kindLot) (bucketOf kindLot 0 0 (r .party) 0 (r .symbol))
         (cond (eqb k kindTrade) (bucketOf kindTrade 0 0 0 (r .id) 0)
-        (cond (eqb k kindSecurity) (bucketOf kindSecurity 0 0 0 0 (r .symbol)) 8_192)) ≡ 8_192
+        (cond (eqb k kindSecurity) (bucketOf kindSecurity 0 0 0 0 (r .symbol)) 4_096)) ≡ 4_096
     go false false false a b c = rw (a, b, c)
     go true t s a b c = absurd (false≢true (sym (rw a at n)))
     go false true s a b c = absurd (false≢true (sym (rw (a, b) at n)))

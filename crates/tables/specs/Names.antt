@@ -5,7 +5,7 @@ use mathlib.Core.List.{List, [], _∷_}
 use mathlib.Core.Logic.{⊎-elim}
 use Prim.Native.Nat.{ℕ}
 use lib.Dec.{eqb}
-use borrow.Author.Tests.{eqb-true}
+use borrow.Author.Tests.{eq-eqb, eqb-true}
 use Rattle.laws.specs.Tests.{and-assoc, or-cases}
 use Rattle.record.specs.Codes.{kindAccount, kindBroker, kindCash, kindCustomer, kindLot, kindRequest, kindSecurity}
 use Rattle.record.specs.Codes.{kindSettlement, kindSummary, kindTaxRate, kindTrade, kindTradeHistory}
@@ -128,3 +128,19 @@ by-status i s r =
     both true false = refl
     both false true = refl
     both false false = refl
+
+-- ---- a row with the key of another
+-- a row of another kind has another key
+pub other-kind : (o r : Row) → eqb (r .kind) (o .kind) ≡ false → hasKey (keyOf o) r ≡ false
+unfolding hasKey sameKey keyOf
+other-kind o r e = rw e
+
+own-history : (r : Row) → r .kind ≡ kindTradeHistory → keyOf r ≡ aHistory (r .id) (r .status)
+unfolding keyOf
+own-history r e = rw e
+
+pub history-twin : (r s : Row) → s .kind ≡ r .kind → r .kind ≡ kindTradeHistory
+    → (eqb (s .id) (r .id) && eqb (s .status) (r .status)) ≡ hasKey (keyOf r) s
+history-twin r s f e =
+    let g : is kindTradeHistory s ≡ true = eq-eqb (s .kind) kindTradeHistory (f ∙ e) in
+    rw (own-history r e, by-status (r .id) (r .status) s, g)

@@ -3,7 +3,7 @@
 // security by its symbol. What a table does not list has a bucket of its own.
 ghost use mathlib.Core.Path.{_≡_};
 ghost use Prim.Native.Nat.{_<_};
-ghost use Rattle.tables.specs.Bucket.{bucketOf, headCount, keyBucket, steadyBucket};
+ghost use Rattle.tables.specs.Bucket.{bucketOf, headCount, keyBucket, spread, steadyBucket};
 use record::bytes::wide32;
 use record::codes::Kind;
 use record::key::Key;
@@ -15,19 +15,26 @@ fn wide8(x: u8) -> u64
     x as u64
 }
 
+// Both halves of a number tell: trades may be numbered in either.
+fn spread(id: u64) -> u64
+    ensures { λ r. ⌜ (r ≡ spread id) × (r < 2305843009213693952) ⌝ }
+{
+    id % 4_294_967_296 * 287_203_101 + id / 4_294_967_296 * 201_023_173
+}
+
 pub fn bucket(kind: u8, form: u8, flags: u8, party: u32, id: u64, symbol: u64) -> usize
     ensures { λ r. ⌜ (r ≡ bucketOf kind form flags party id symbol) × (r < headCount) ⌝ }
 {
     if kind == Kind::FREE {
-        return 8192;
+        return 4096;
     }
     let name = wide8(kind) + wide8(form) * 256 + wide8(flags) * 65_536;
     let letters = symbol / 4_294_967_296 + symbol % 4_294_967_296;
-    let mixed = name * 506_952_119
-        + wide32(party) * 316_542_083
-        + id % 4_294_967_296 * 506_952_113
-        + letters * 401_236_177;
-    (mixed % 4_294_967_296 / 524_288) as usize
+    let mixed = name * 442_130_567
+        + wide32(party) * 277_607_845
+        + spread(id)
+        + letters * 168_287_865;
+    (mixed % 4_294_967_296 / 1_048_576) as usize
 }
 
 pub fn key_bucket(r: Row) -> usize
@@ -45,6 +52,6 @@ pub fn steady_bucket(r: Row) -> usize
         Kind::LOT => bucket(Kind::LOT, 0, 0, r.party, 0, r.symbol),
         Kind::TRADE => bucket(Kind::TRADE, 0, 0, 0, r.id, 0),
         Kind::SECURITY => bucket(Kind::SECURITY, 0, 0, 0, 0, r.symbol),
-        _ => 8192,
+        _ => 4096,
     }
 }

@@ -31,9 +31,9 @@ use shelf::search::named;
 pub struct Slots {}
 
 impl Slots {
-    pub const HEADS: usize = 8_193;
+    pub const HEADS: usize = 4_097;
 
-    pub const ALL: usize = 12_289;
+    pub const ALL: usize = 8_193;
 }
 
 pub fn wide(x: u16) -> usize
@@ -211,10 +211,16 @@ pub fn summary_row(book: &[u8], keys: &[u16; Slots::ALL], account: u32, symbol: 
     row_at(book, by_holder(book, keys, account, symbol))
 }
 
-// The second row has the key of the first.
+// The second row has the key of the first. Histories of one trade share a bucket, so they are told apart at once.
 fn twin(row: Row, other: Row) -> bool
     ensures { λ r. ⌜ r ≡ hasKey (keyOf row) other ⌝ }
 {
+    if other.kind != row.kind {
+        return false;
+    }
+    if row.kind == Kind::TRADE_HISTORY {
+        return (other.id == row.id) & (other.status == row.status);
+    }
     named(Key::of(row), other)
 }
 

@@ -22,7 +22,7 @@ use Rattle.rules.specs.Rules.{as-kind, resultInput}
 use Rattle.model.specs.Flags.{cash}
 use Rattle.model.specs.Lots.{walk}
 use Rattle.model.specs.Money.{commissionOf, settlementOf, taxOf, untaxed}
-use Rattle.model.specs.Names.{aCustomer, aSecurity, aTrade, anAccount}
+use Rattle.model.specs.Names.{aCustomer, aSecurity, aSummary, aTrade, anAccount}
 use Rattle.model.specs.Result.{View, figures, view}
 use Rattle.model.specs.Result
 use Rattle.model.specs.Rows.{found, hasKey, is}
@@ -104,6 +104,10 @@ module _ (rs : List Row) (input : Row) {t : Terms} (good : sound rs ≡ true) (h
   pub trade-shares : t .trade .n1 ≤ sharesMost
   unfolding termsOf view
   trade-shares = rw h (shares-most rs (input .id) (sound-s1 rs good))
+
+  pub summary-found : t .summary ≡ found (aSummary (t .trade .party) (t .trade .symbol)) rs
+  unfolding termsOf view
+  summary-found = rw h
 
   pub charge-fits : t .trade .n4 ≤ charged .high
   unfolding termsOf view

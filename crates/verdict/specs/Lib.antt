@@ -1,3 +1,4 @@
+pub mod NoLots
 pub mod Figures
 pub mod Signed
 pub mod Judge

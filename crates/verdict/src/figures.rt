@@ -11,11 +11,15 @@ ghost use Rattle.kinds.specs.Units.{cents};
 ghost use Rattle.rules.specs.Ranges.{charged, fee, moneyMost, priceMost, sharesMost};
 ghost use Rattle.rules.specs.Rules.{resultInput};
 ghost use Rattle.model.specs.Flags.{cash};
+ghost use Rattle.model.specs.Lots.{walk};
 ghost use Rattle.model.specs.Money.{settlementOf};
-ghost use Rattle.model.specs.Rows.{rows};
+ghost use Rattle.model.specs.Names.{aSummary};
+ghost use Rattle.model.specs.Rows.{found, rows};
 ghost use Rattle.model.specs.Sound.{sound};
 ghost use Rattle.tables.specs.Bucket.{keyBucket, steadyBucket};
 ghost use Rattle.tables.specs.Table.{Indexed};
+ghost use Rattle.lots.specs.Lots.{lotsOf};
+ghost use Rattle.lots.specs.Walk.{Within, made, seen};
 ghost use Rattle.verdict.specs.Figures.{figuresOf, termsOf};
 use crate::signed::added;
 use crate::signed::settled;
@@ -109,6 +113,21 @@ fn balance(trade: Row, account: Row, settlement: Cents) -> Cents
     Cents(added(is_cash(trade.flags), signed64(account.m1), settlement.0))
 }
 
+// The walk over the lots that a trade closes. Without a summary there are none, and the book is not gone through.
+fn walked(book: &[u8], keys: &[u16; Slots::ALL], trade: Row, summary: Row, price: Price) -> Walk
+    requires { ⌜ Indexed keyBucket (now book) (now keys) 0 ⌝ }
+    requires { ⌜ (sound (rows (now book)) ≡ true)
+        × (summary ≡ found (aSummary (trade .party) (trade .symbol)) (rows (now book))) ⌝ }
+    requires { ⌜ (price .0 ≤ priceMost) × (trade .n1 ≤ sharesMost) ⌝ }
+    ensures { λ r. ⌜ r ≡ made (walk (trade .form) (price .0) (trade .n1) (lotsOf (rows (now (book .entry))) trade)) ⌝ }
+    ensures { λ r. ⌜ Within (trade .n1 * priceMost) (seen r) ⌝ }
+{
+    if summary.kind == Kind::FREE {
+        return Walk::start(shares(trade.n1 as u64));
+    }
+    walk(book, keys, trade, price)
+}
+
 pub fn figured(book: &[u8], keys: &[u16; Slots::ALL], input: Row, terms: Terms) -> Figures
     requires { ⌜ Indexed keyBucket (now book) (now keys) 0 ⌝ }
     requires { ⌜ (sound (rows (now book)) ≡ true) × (resultInput input ≡ true) ⌝ }
@@ -118,7 +137,7 @@ pub fn figured(book: &[u8], keys: &[u16; Slots::ALL], input: Row, terms: Terms) 
 {
     let t = terms.trade;
     let price = Price(input.n1);
-    let w = walk(book, keys, t, price);
+    let w = walked(book, keys, t, terms.summary, price);
     let levy = tax(terms.account.form, terms.rates, w.bought, w.sold);
     let fee = commission(terms.rate, shares(t.n1 as u64), price);
     let amount = settlement(t, terms.account.form, price, fee, levy);

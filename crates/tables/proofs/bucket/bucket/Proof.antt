@@ -1,4 +1,4 @@
--- The sum is the definition's, term by term; nothing overflows, and 32 bits less 19 are 13. Assumes nothing.
+-- The sum is the definition's, term by term; nothing overflows, and 32 bits less 20 are 12. Assumes nothing.
 use Rattle.tables.specs.Bucket.{a-bucket, no-bucket}
 use native.Mathlib.Omega.{arith}
 use borrow.Author.Needs.{needs}
@@ -10,9 +10,9 @@ returns c = (no-bucket _ _ _ _ _ (c .if1 .taken), omega arith)
 
 returns-2 : tie.Need-returns-2
 returns-2 c =
-    let first = c .before .before .before in (
-      a-bucket _ _ (first .before .if1 .left) (first .wide8 .ensures .0) (c .before .before .wide82 .ensures .0)
-          (c .before .wide83 .ensures .0) (c .wide32 .ensures .0),
+    let first = c .before .before .before .before in (
+      a-bucket _ _ (first .before .if1 .left) (first .wide8 .ensures .0) (c .before .before .before .wide82 .ensures .0)
+          (c .before .before .wide83 .ensures .0) (c .before .wide32 .ensures .0) (c .spread .ensures .0),
       omega arith,
     )
 
@@ -33,7 +33,7 @@ bucket-spec =
     (λ c κs. search needs)
     (λ c. search needs)
     (λ c. search needs)
-    (λ c. search needs)
+    (λ c κs. search needs)
     (λ c. search needs)
     (λ c. search needs)
     (λ c. search needs)

@@ -1,24 +1,23 @@
 -- A sound book and a good input keep all values in their range, and each is the one of the rules. Assumes nothing.
 use borrow.Author.Needs.{needs}
-use Rattle.tables.specs.Found.{sound-s1, sound-s2}
 use Rattle.lots.specs.Walk.{sold-most}
 use Rattle.verdict.specs.Figures.{balance-fits, charge-fits, figures-are, price-fits, rate-fits, rates-fit}
-use Rattle.verdict.specs.Figures.{trade-shares}
+use Rattle.verdict.specs.Figures.{summary-found, trade-shares}
 use Rattle.verdict.proofs.figures.figured.Statement.{statement}
 use Rattle.verdict.proofs.figures.figured.Tie as tie
 
-walk-requires : tie.Need-walk-requires
-walk-requires c κs =
+walked-requires : tie.Need-walked-requires
+walked-requires c κs =
     let pre = c .before .before .pre in
     let good = pre .1 .0 .0 in
     let count = trade-shares _ _ good (pre .1 .1) in
-    (pre .0, ((sound-s1 _ good, sound-s2 _ good), (price-fits _ (pre .1 .0 .1), count)))
+    (pre .0, ((good, summary-found _ _ good (pre .1 .1)), (price-fits _ (pre .1 .0 .1), count)))
 
 tax-requires : tie.Need-tax-requires
 tax-requires c κs =
     let pre = c .before .before .before .pre in
     let good = pre .1 .0 .0 in
-    let sold = sold-most (c .walk .result) _ (trade-shares _ _ good (pre .1 .1)) (c .walk .ensures .1) in
+    let sold = sold-most (c .walked .result) _ (trade-shares _ _ good (pre .1 .1)) (c .walked .ensures .1) in
     (rates-fit _ _ good (pre .1 .1), sold)
 
 commission-requires : tie.Need-commission-requires
@@ -42,7 +41,7 @@ untaxed-requires c κs =
     let w = c .before .before .before .before .before in
     let pre = w .before .before .before .pre in
     let good = pre .1 .0 .0 in
-    let sold = sold-most (w .walk .result) _ (trade-shares _ _ good (pre .1 .1)) (w .walk .ensures .1) in
+    let sold = sold-most (w .walked .result) _ (trade-shares _ _ good (pre .1 .1)) (w .walked .ensures .1) in
     (rates-fit _ _ good (pre .1 .1), sold)
 
 balance-requires : tie.Need-balance-requires
@@ -57,7 +56,7 @@ returns c =
     let taxed = count .before .before in
     let pre = taxed .before .before .before .before .pre in
     let fee = amount .before .commission .ensures in (
-      figures-are _ _ (pre .1 .1) (taxed .before .walk .ensures .0) (taxed .tax .ensures .0) (count .shares .ensures)
+      figures-are _ _ (pre .1 .1) (taxed .before .walked .ensures .0) (taxed .tax .ensures .0) (count .shares .ensures)
           (fee .0) (amount .settlement .ensures .0) (c .before .untaxed .ensures) (c .balance .ensures),
       fee .1,
     )
@@ -66,7 +65,7 @@ pub figured-spec : {M : Type 1} → statement M
 figured-spec =
     tie.close
     (tie.spec
-    walk-requires
+    walked-requires
     tax-requires
     (λ c. search needs)
     (λ c κs. search needs)
