@@ -10,7 +10,8 @@
 //! - "exactly where" is counted: if each settlement has its own completed trade, there are as many of the ones as of the
 //!   others exactly if no completed trade lacks one.
 //! - The tables are as large as the rows of a kind want, and the areas are kept from call to call: a call allocates
-//!   nothing once a book of the size was met. No loop makes a list longer, so that where the lists lie is known before.
+//!   nothing once such a book was met. Apart from the places, no loop makes a list longer, so that where it lies is
+//!   known before.
 #![forbid(unsafe_code)]
 
 mod grid;
@@ -18,25 +19,10 @@ mod result;
 mod sound;
 mod table;
 
-use second::record::MAX_RECORDS;
 use table::Table;
 
 /// The kinds are 1 to 16, and 0 is a free record's.
 const KINDS: usize = 17;
-
-/// The places of a kind's rows, rising.
-#[derive(Clone)]
-struct Places {
-    count: usize,
-    list: [u16; MAX_RECORDS],
-}
-
-impl Places {
-    #[inline(always)]
-    fn list(&self) -> &[u16] {
-        &self.list[..self.count]
-    }
-}
 
 /// What a trade is asked for by the rows that name it.
 #[derive(Clone, Copy, Default)]
@@ -62,8 +48,8 @@ struct Position {
 /// longer than what this book has of its rows.
 #[derive(Default)]
 pub struct Yardstick {
-    /// Of each kind.
-    places: Vec<Places>,
+    /// Of each kind, rising. They grow as rows come: all together are then small and lie close to each other.
+    places: [Vec<u16>; KINDS],
     brokers: Table,
     customers: Table,
     tax_rates: Table,

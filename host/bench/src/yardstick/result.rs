@@ -79,7 +79,7 @@ impl Yardstick {
     }
 
     fn place(&self, kind: u8, number: usize) -> usize {
-        self.places[usize::from(kind)].list[number].into()
+        self.places[usize::from(kind)][number].into()
     }
 
     /// Everything that can be refused; the book is read only.
@@ -185,7 +185,7 @@ impl Yardstick {
         }
         let mut number = position.last_lot;
         while number != NO_LOT {
-            let place = self.places[usize::from(LOT)].list[usize::from(number)];
+            let place = self.places[usize::from(LOT)][usize::from(number)];
             let row = Row::of(&rows[usize::from(place)]);
             self.walk.push(Lot {
                 time: row.time_n5() as u32,
@@ -227,7 +227,7 @@ impl Yardstick {
         let trade = Row::of(&rows[outcome.trade]);
         let (party, symbol, cash) = (trade.party() << 32, trade.symbol(), trade.is_cash());
         let signed = |shares: i64| if outcome.buys { shares } else { -shares };
-        let mut free = self.places[0].list().iter();
+        let mut free = self.places[0].iter();
         let mut add = |rows: &mut [Record], words: [u64; 8]| {
             let place = free.next().expect("as many as were asked for");
             put(&mut rows[usize::from(*place)], words);
