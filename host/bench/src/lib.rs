@@ -47,14 +47,14 @@ impl Spread {
     }
 }
 
-/// The first argument as a number of rounds, or this many; another argument ends the program.
-pub fn rounds_asked(else_this: usize) -> usize {
+/// The first argument as a count of what is told, or this many; another argument ends the program.
+pub fn count_asked(of: &str, else_this: usize) -> usize {
     let words: Vec<String> = std::env::args().collect();
     match words.get(1).map(|word| word.parse()) {
         None => else_this,
-        Some(Ok(rounds)) if rounds > 0 && words.len() == 2 => rounds,
+        Some(Ok(count)) if count > 0 && words.len() == 2 => count,
         Some(_) => {
-            eprintln!("usage: {} [ROUNDS]", words[0]);
+            eprintln!("usage: {} [{of}]", words[0]);
             std::process::exit(2);
         }
     }

@@ -1,5 +1,5 @@
-//! The yardstick: soundness and book_result in plain Rust, written for speed. It answers what the rules of docs/01 ask
-//! for, byte for byte, as the program `yardstick` sees to; the numbers of the rules are those of `second::record`.
+//! The yardstick: soundness and book_result in Rust, written for speed. It answers as the rules say, byte for byte,
+//! which the program `yardstick` sees to; the numbers of the rules are those of `second::record`.
 //!
 //! What makes it fast:
 //! - One pass sorts the places by kind. After it a loop meets rows of one kind, so the processor guesses each branch.
@@ -7,8 +7,8 @@
 //! - A row that names another is found good by what it names: a symbol that some security has needs no second look at
 //!   its letters, and the key of a request, a history, a lot, a settlement or a cash row is there once if a bit of its
 //!   trade was not set before. So only the trades are hashed, and not what hangs on them.
-//! - "exactly where" is counted: if each settlement has its own completed trade, there are as many of the ones as of the
-//!   others exactly if no completed trade lacks one.
+//! - "exactly where" is counted: if each settlement has its own completed trade, there are as many of the ones as of
+//!   the others exactly if no completed trade lacks one.
 //! - The tables are as large as the rows of a kind want, and the areas are kept from call to call: a call allocates
 //!   nothing once such a book was met. Apart from the places, no loop makes a list longer, so that where it lies is
 //!   known before.

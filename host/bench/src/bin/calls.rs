@@ -6,7 +6,7 @@
 //! the same work, and what its times differ by is the machine's noise. A round's time is the mean over the books.
 
 use bench::yardstick::Yardstick;
-use bench::{growth, rounds_asked, Spread, SIZES};
+use bench::{count_asked, growth, Spread, SIZES};
 use second::calls::{Call, MAX_ENTRIES};
 use second::gen::{self, Focus, Plan};
 use second::record::{bytes_of, rows_of, Row, FLAG_ROLL_BACK, RECORD, REQUEST, TLB, TSL};
@@ -231,7 +231,7 @@ impl Line {
 }
 
 fn main() {
-    let rounds = rounds_asked(ROUNDS);
+    let rounds = count_asked("ROUNDS", ROUNDS);
     println!("each call, accepted: {rounds} rounds over {BOOKS} sound books of a size, in microseconds a call;");
     println!("the median of the rounds, and in brackets their 10th and 90th percentile; ratios of medians");
     println!("'changed' is how many records of the book a call changes, the mean over the books; a quiet feed submits");

@@ -124,7 +124,7 @@ fn table(rounds: usize, by: usize) {
 }
 
 fn main() {
-    let rounds = bench::rounds_asked(ROUNDS);
+    let rounds = bench::count_asked("ROUNDS", ROUNDS);
     println!("medians over {BOOKS} sound books, in microseconds; ratios of medians");
     println!("\nthe books in turn, {rounds} rounds:");
     table(rounds, BOOKS);

@@ -1,15 +1,16 @@
-//! `yardstick [CASES]`: holds the yardstick to the second program: the status, every byte of the answer and every byte of
-//! the book of CASES random results (else 20,000) on books of all sizes; and the status of books that are broken in every
-//! way that `second::mutate` knows, and of books with one field of a row of each kind set to the borders of all ranges.
-//! Prints how often each status came; its last line is 'N passed, M failed'.
+//! `yardstick [CASES]`: holds the yardstick to the second program: the status, every byte of the answer and every byte
+//! of the book of CASES random results (else 20,000) on books of all sizes; and the status of books that are broken in
+//! every way that `second::mutate` knows, and of books with one field of a row of each kind set to the ends of all
+//! ranges. Prints how often each status came; its last line is 'N passed, M failed'.
 
-use bench::rounds_asked;
+use bench::count_asked;
 use bench::yardstick::Yardstick;
 use second::calls::Call;
+use second::gen::{self, Focus, Plan};
 use second::record::*;
 use second::rng::Rng;
 use second::sound::{self, Rule};
-use second::{features, gen, mutate};
+use second::{features, mutate};
 use std::collections::{BTreeMap, BTreeSet};
 
 const CASES: usize = 20_000;
@@ -135,43 +136,41 @@ fn broken_books(tally: &mut Tally, yardstick: &mut Yardstick) {
     }
 }
 
-/// Books with one field of one row changed: a row of each kind, all fields, all borders and broken symbols.
+/// Books with one field of one row changed: a row of each kind, all fields, all borders and broken symbols. Once in its
+/// place, and once in a copy of the row on a free place, which no other row names.
 fn fields(tally: &mut Tally, yardstick: &mut Yardstick) {
     let (mut met, mut all_kinds) = (BTreeMap::new(), BTreeSet::new());
     for number in 0..BOOKS_OF_FIELDS {
         let mut rng = Rng::of(3, 0, number);
-        let records = rng.between(60, 120) as usize;
-        let mut book = gen::book(&mut rng, records);
+        let plan = Plan {
+            records: rng.between(60, 120) as usize,
+            free: 5,
+            limits: false,
+            submitted: 30,
+            focus: Focus::Nothing,
+        };
+        let book = gen::book_of(&mut rng, &plan);
+        let rows = rows_of(&book);
+        let free = rows.iter().position(Row::is_free).expect("five are");
         let mut kinds = BTreeSet::new();
-        let rows: Vec<(usize, Row)> = rows_of(&book).into_iter().enumerate().collect();
-        for (place, row) in rows.into_iter().filter(|(_, row)| kinds.insert(row.kind)) {
-            for (field, first, width) in mutate::PLACES {
-                let mut values: Vec<[u8; 8]> = BORDERS
-                    .iter()
-                    .flat_map(|border| [*border, border + 1, border.wrapping_sub(1)])
-                    .flat_map(|value| [value, value.wrapping_neg()])
-                    .map(u64::to_le_bytes)
-                    .collect();
-                if field == Field::Symbol && row.symbol != [0; 8] {
-                    values.extend(
-                        gen::broken_symbols(row.symbol)
-                            .into_iter()
-                            .map(|(_, bad)| bad),
-                    );
+        let of_each_kind = rows.iter().enumerate();
+        for (place, row) in of_each_kind.filter(|(_, row)| kinds.insert(row.kind)) {
+            for start in [place * RECORD, free * RECORD] {
+                let mut book = book.clone();
+                book[start..start + RECORD].copy_from_slice(&row.write());
+                for (field, first, width) in mutate::PLACES {
+                    let part = start + first..start + first + width;
+                    let good = book[part.clone()].to_vec();
+                    for value in values_for(field, width, row) {
+                        book[part.clone()].copy_from_slice(&value[..width]);
+                        let statuses = (yardstick.status(&book), sound::status(&book));
+                        tally.count(statuses.0 == statuses.1, || {
+                            format!("kind {}, {field:?} {value:?}: {statuses:?}", row.kind)
+                        });
+                        *met.entry(statuses.1).or_insert(0) += 1;
+                    }
+                    book[part].copy_from_slice(&good);
                 }
-                values.sort();
-                values.dedup_by_key(|value| value[..width].to_vec());
-                let start = place * RECORD + first;
-                let good = book[start..start + width].to_vec();
-                for value in values {
-                    book[start..start + width].copy_from_slice(&value[..width]);
-                    let statuses = (yardstick.status(&book), sound::status(&book));
-                    tally.count(statuses.0 == statuses.1, || {
-                        format!("kind {}, {field:?} {value:?}: {statuses:?}", row.kind)
-                    });
-                    *met.entry(statuses.1).or_insert(0) += 1;
-                }
-                book[start..start + width].copy_from_slice(&good);
             }
         }
         all_kinds.extend(kinds);
@@ -182,9 +181,26 @@ fn fields(tally: &mut Tally, yardstick: &mut Yardstick) {
     println!("statuses of books with one field changed, and how often: {met:?}");
 }
 
+/// What a field of this row is set to: its first bytes are taken.
+fn values_for(field: Field, width: usize, row: &Row) -> Vec<[u8; 8]> {
+    let mut values: Vec<[u8; 8]> = BORDERS
+        .iter()
+        .flat_map(|border| [*border, border + 1, border.wrapping_sub(1)])
+        .flat_map(|value| [value, value.wrapping_neg()])
+        .map(u64::to_le_bytes)
+        .collect();
+    if field == Field::Symbol && row.symbol != [0; 8] {
+        let broken = gen::broken_symbols(row.symbol).into_iter();
+        values.extend(broken.map(|(_, bad)| bad));
+    }
+    values.sort();
+    values.dedup_by_key(|value| value[..width].to_vec());
+    values
+}
+
 fn main() {
     let (mut tally, mut yardstick) = (Tally::default(), Yardstick::default());
-    results(&mut tally, &mut yardstick, rounds_asked(CASES));
+    results(&mut tally, &mut yardstick, count_asked("CASES", CASES));
     broken_books(&mut tally, &mut yardstick);
     fields(&mut tally, &mut yardstick);
     println!("{} passed, {} failed", tally.passed, tally.failed);

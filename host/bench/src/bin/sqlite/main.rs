@@ -1,12 +1,12 @@
 //! `sqlite [ROUNDS]`: how long a result takes by book_result, by the yardstick and by SQLite in memory, with the
 //! statements of the standard and one transaction a result, on the same books.
 //!
-//! A round posts the same list of results to a fresh copy of the book for each of the first two, and to fresh tables that
-//! hold its rows; none is made within the time that is measured, nor are the statements prepared. Afterwards every answer
-//! is compared, and the rows of the tables with those of the book, each as many times: all have done the same work.
+//! A round posts the same list of results to a fresh copy of the book for each of the first two, and to fresh tables
+//! that hold its rows; none is made within the time that is measured, nor are the statements prepared. Afterwards every
+//! answer is compared, and the rows of the tables with those of the book, each as many times: all have done the same.
 
 use bench::yardstick::Yardstick;
-use bench::{rounds_asked, Spread, SIZES};
+use bench::{count_asked, Spread, SIZES};
 use database::Database;
 use posting::Posting;
 use second::calls::{Call, BAD_INPUT, NO_ROOM};
@@ -138,18 +138,18 @@ fn by_sqlite(pragmas: &str, work: &Workload) -> (f64, End) {
 }
 
 fn main() {
-    let rounds = rounds_asked(ROUNDS);
+    let rounds = count_asked("ROUNDS", ROUNDS);
     let (_, run) = *CALLS
         .iter()
         .find(|(call, _)| *call == Call::Result)
         .unwrap();
     compare(run);
     println!(
-        "a result by book_result, the yardstick and SQLite {} in memory, one transaction each: {rounds} rounds, in microseconds a",
+        "a result by book_result, the yardstick and SQLite {} in memory, one transaction each: {rounds} rounds, in",
         database::version()
     );
-    println!("result: the median of the rounds, and in brackets their 10th and 90th percentile; ratios of medians");
-    println!("book_result and the yardstick check the whole book for soundness in every call; SQLite checks its constraints");
+    println!("microseconds a result: the median of the rounds, and in brackets their 10th and 90th percentile");
+    println!("book_result and the yardstick check the whole book in every call; SQLite checks its constraints alone");
     let mut yardstick = Yardstick::default();
     for records in SIZES {
         let work = workload::of(records);
