@@ -52,30 +52,27 @@ impl Yardstick {
             return WRONG_LENGTH;
         };
         let input = Row::of(input);
-        let status = match self.status(book) {
-            0 if !is_result_input(input) => BAD_INPUT,
-            0 => {
-                let rows = book.as_chunks_mut().0;
-                match self.judge(rows, input) {
-                    Ok(outcome) => {
-                        self.post(rows, input, &outcome);
-                        let head =
-                            u64::from(RESULT_INPUT) | Row::of(&rows[outcome.account]).party() << 32;
-                        let money = [outcome.balance as u64, outcome.settlement as u64];
-                        put(
-                            answer,
-                            [head, input.id(), outcome.tax, 0, 0, money[0], money[1], 0],
-                        );
-                        return 0;
-                    }
-                    Err(status) => status,
-                }
-            }
-            status => status,
+        let judged = match self.status(book) {
+            0 if is_result_input(input) => self.judge(book.as_chunks().0, input),
+            0 => Err(BAD_INPUT),
+            status => Err(status),
         };
-        answer.fill(0);
-        answer[60..].copy_from_slice(&status.to_le_bytes());
-        status
+        match judged {
+            Ok(outcome) => {
+                let rows = book.as_chunks_mut().0;
+                self.post(rows, input, &outcome);
+                let head = u64::from(RESULT_INPUT) | Row::of(&rows[outcome.account]).party() << 32;
+                let (balance, settlement) = (outcome.balance as u64, outcome.settlement as u64);
+                let words = [head, input.id(), outcome.tax, 0, 0, balance, settlement, 0];
+                put(answer, words);
+                0
+            }
+            Err(status) => {
+                answer.fill(0);
+                answer[60..].copy_from_slice(&status.to_le_bytes());
+                status
+            }
+        }
     }
 
     fn place(&self, kind: u8, number: usize) -> usize {
