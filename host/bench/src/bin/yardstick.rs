@@ -1,7 +1,7 @@
 //! `yardstick [CASES]`: holds the yardstick to the second program: the status, every byte of the answer and every byte
 //! of the book of CASES random results (else 20,000) on books of all sizes; and the status of books that are broken in
-//! every way that `second::mutate` knows, and of books with one field of a row of each kind set to the ends of all
-//! ranges. Prints how often each status came; its last line is 'N passed, M failed'.
+//! every way that `second::mutate` knows, with one field of a row of each kind set to the ends of all ranges, and with
+//! one row as another. Prints how often each status came; its last line is 'N passed, M failed'.
 
 use bench::count_asked;
 use bench::yardstick::Yardstick;
@@ -18,6 +18,8 @@ const CASES: usize = 20_000;
 const BOOKS_EACH: u64 = 30;
 /// So many sound books have the fields of their rows changed.
 const BOOKS_OF_FIELDS: u64 = 5;
+/// So many have each row replaced once.
+const BOOKS_OF_COPIES: u64 = 200;
 const MOST_SAID: u64 = 10;
 
 /// The ends of the ranges of the grid; a field is set to these, to what lies beside them, and to their negatives.
@@ -181,6 +183,30 @@ fn fields(tally: &mut Tally, yardstick: &mut Yardstick) {
     println!("statuses of books with one field changed, and how often: {met:?}");
 }
 
+/// Books with one row replaced by a copy of another of its kind: a key is there twice, and yet the kind has as many rows
+/// as before.
+fn copies(tally: &mut Tally, yardstick: &mut Yardstick) {
+    let mut met = BTreeMap::new();
+    for number in 0..BOOKS_OF_COPIES {
+        let mut rng = Rng::of(4, 0, number);
+        let records = rng.between(18, 120) as usize;
+        let book = gen::book(&mut rng, records);
+        let rows = rows_of(&book);
+        for (place, row) in rows.iter().enumerate().filter(|(_, row)| !row.is_free()) {
+            let others = rows.iter().filter(|other| other.kind == row.kind);
+            let other = rng.pick(&others.collect::<Vec<_>>()).write();
+            let mut book = book.clone();
+            book[place * RECORD..(place + 1) * RECORD].copy_from_slice(&other);
+            let statuses = (yardstick.status(&book), sound::status(&book));
+            tally.count(statuses.0 == statuses.1, || {
+                format!("two rows of kind {}: {statuses:?}", row.kind)
+            });
+            *met.entry(statuses.1).or_insert(0) += 1;
+        }
+    }
+    println!("statuses of books with one row as another, and how often: {met:?}");
+}
+
 /// What a field of this row is set to: its first bytes are taken.
 fn values_for(field: Field, width: usize, row: &Row) -> Vec<[u8; 8]> {
     let mut values: Vec<[u8; 8]> = BORDERS
@@ -203,6 +229,7 @@ fn main() {
     results(&mut tally, &mut yardstick, count_asked("CASES", CASES));
     broken_books(&mut tally, &mut yardstick);
     fields(&mut tally, &mut yardstick);
+    copies(&mut tally, &mut yardstick);
     println!("{} passed, {} failed", tally.passed, tally.failed);
     std::process::exit(i32::from(tally.failed > 0));
 }
