@@ -3,6 +3,9 @@
  * program `cases` of second/ writes for this seed. With COUNT it wants so many of every call, and each status that a
  * call can give. Its last line is 'N passed, M failed'.
  *
+ * calls sentences COUNT <CASES: holds the library to the sentences of the rules, broken and kept, that the program
+ * `sentences` of second/ writes, and wants COUNT cases in all. `sentences list` says what each number is.
+ *
  * A case that failed can be run alone: `cases SEED N N CALL | calls SEED`. Its areas are then placed as before.
  */
 #include "book_row.h"
@@ -11,8 +14,12 @@
 #include <inttypes.h>
 #include <stdio.h>
 #include <stdlib.h>
+#include <string.h>
 
 enum { MOST_CALLS = 4, MOST_STATUSES = 16, MOST_BYTES = 1 << 24, NAME_LENGTH = 120 };
+
+/* In place of a seed, for sentences. */
+enum { NO_SEED = -1 };
 
 /* The numbers that a case of the stream begins with. */
 enum { KIND, NUMBER, BOOK, INPUT, ANSWER, STATUS, NUMBERS };
@@ -47,8 +54,9 @@ static void count(const struct call *call, int32_t status)
         fault("the cases", "status %" PRId32 " is expected of a %s", status, call->name);
 }
 
-/* Where the case's areas are placed depends on nothing but the seed and the case, so that it can be run alone. */
-static void check_case(const uint32_t numbers[NUMBERS], const uint8_t *bytes, uint64_t seed)
+/* Where the case's areas are placed depends on nothing but the seed and the case, so that it can be run alone. A
+   sentence has no seed. */
+static void check_case(const uint32_t numbers[NUMBERS], const uint8_t *bytes, int64_t seed)
 {
     char name[NAME_LENGTH];
     struct sample sample;
@@ -62,12 +70,15 @@ static void check_case(const uint32_t numbers[NUMBERS], const uint8_t *bytes, ui
     sample.answer = sample.input + sample.input_length;
     sample.book_after = sample.answer + sample.answer_length;
     sample.answer_after = sample.book_after + sample.book_length;
-    snprintf(name, sizeof name, "seed %" PRIu64 ", %s case %" PRIu32, seed, sample.call->name, numbers[NUMBER]);
+    if (seed == NO_SEED)
+        snprintf(name, sizeof name, "sentence %" PRIu32 ", %s", numbers[NUMBER], sample.call->name);
+    else
+        snprintf(name, sizeof name, "seed %" PRId64 ", %s case %" PRIu32, seed, sample.call->name, numbers[NUMBER]);
     count(sample.call, sample.status);
-    check(&sample, (seed << 40) ^ ((uint64_t)numbers[KIND] << 32) ^ numbers[NUMBER], name);
+    check(&sample, ((uint64_t)seed << 40) ^ ((uint64_t)numbers[KIND] << 32) ^ numbers[NUMBER], name);
 }
 
-static void check_stream(uint64_t seed)
+static void check_stream(int64_t seed)
 {
     uint32_t numbers[NUMBERS];
     while (next_case(numbers)) {
@@ -103,6 +114,17 @@ static void report(unsigned long asked)
     }
 }
 
+/* Runs the sentences of the stream, which must have so many cases. */
+static int run_sentences(int64_t asked)
+{
+    check_stream(NO_SEED);
+    report(0);
+    if (passed + failed != (unsigned long)asked)
+        fault("the sentences", "%lu cases instead of %" PRId64, passed + failed, asked);
+    printf("%lu passed, %lu failed\n", passed, failed);
+    return failed > 0;
+}
+
 /* The number that a word is, or -1. */
 static int64_t number(const char *word)
 {
@@ -113,17 +135,20 @@ static int64_t number(const char *word)
 
 int main(int words, char **word)
 {
+    int sentences = words == 3 && strcmp(word[1], "sentences") == 0;
     int64_t seed = words >= 2 ? number(word[1]) : -1;
     int64_t asked = words == 3 ? number(word[2]) : 0;
-    if (words > 3 || seed < 0 || asked < 0) {
-        fprintf(stderr, "usage: calls SEED [COUNT] <CASES\n");
+    if (words > 3 || (seed < 0 && !sentences) || asked < 0) {
+        fprintf(stderr, "usage: calls SEED [COUNT] <CASES\n       calls sentences COUNT <CASES\n");
         return 2;
     }
     setvbuf(stdout, NULL, _IOLBF, 0);
     watch_for_crashes();
+    if (sentences)
+        return run_sentences(asked);
     check_written();
     printf("%lu runs of samples that are written out here\n", passed + failed);
-    check_stream((uint64_t)seed);
+    check_stream(seed);
     report((unsigned long)asked);
     printf("%lu passed, %lu failed\n", passed, failed);
     return failed > 0;

@@ -4,36 +4,41 @@
 use crate::record::*;
 use crate::sound::Rule;
 
+type Holds = fn(&[Row]) -> bool;
+
+const RULES: [(Rule, Holds); 10] = [
+    (Rule::S1, s1),
+    (Rule::S2, s2),
+    (Rule::S3, s3),
+    (Rule::S4, s4),
+    (Rule::S5, s5),
+    (Rule::S6, s6),
+    (Rule::S7, s7),
+    (Rule::S8, s8),
+    (Rule::S9, s9),
+    (Rule::S10, s10),
+];
+
 /// Says of each rule, in order, whether it holds, and stops at the first that does not.
 pub fn check(book: &[u8]) -> Result<(), Rule> {
     if !book.len().is_multiple_of(RECORD) {
         return Err(Rule::S1);
     }
-    if !book
-        .chunks(RECORD)
-        .all(|record| check_record(record.try_into().unwrap()).is_ok())
-    {
-        return Err(Rule::S1);
-    }
     let rows = rows_of(book);
-    type Holds = fn(&[Row]) -> bool;
-    let rules: [(Rule, Holds); 9] = [
-        (Rule::S2, s2),
-        (Rule::S3, s3),
-        (Rule::S4, s4),
-        (Rule::S5, s5),
-        (Rule::S6, s6),
-        (Rule::S7, s7),
-        (Rule::S8, s8),
-        (Rule::S9, s9),
-        (Rule::S10, s10),
-    ];
-    for (rule, holds) in rules {
-        if !holds(&rows) {
-            return Err(rule);
-        }
+    match RULES.iter().find(|(_, holds)| !holds(&rows)) {
+        Some((rule, _)) => Err(*rule),
+        None => Ok(()),
     }
-    Ok(())
+}
+
+/// All rules that do not hold, each asked whatever the others say.
+pub fn broken(rows: &[Row]) -> Vec<Rule> {
+    let broken = RULES.iter().filter(|(_, holds)| !holds(rows));
+    broken.map(|(rule, _)| *rule).collect()
+}
+
+fn s1(rows: &[Row]) -> bool {
+    rows.iter().all(|row| check_record(&row.write()).is_ok())
 }
 
 fn of_kind(rows: &[Row], kind: u8) -> impl Iterator<Item = &Row> {
@@ -133,7 +138,7 @@ fn s6(rows: &[Row]) -> bool {
                 }) == 1
         });
         if trade.status == 1 {
-            trade.typ >= 3 && requests == 1 && agreeing == 1
+            (3..=5).contains(&trade.typ) && requests == 1 && agreeing == 1
         } else {
             requests == 0
         }
@@ -177,7 +182,7 @@ fn s9(rows: &[Row]) -> bool {
         let cash: Vec<&Row> = of_kind(rows, CASH)
             .filter(|row| row.id == trade.id)
             .collect();
-        let is_cash = trade.flags == 1 || trade.flags == 3;
+        let is_cash = trade.flags % 2 == 1;
         if trade.status != 3 {
             settlements.is_empty() && cash.is_empty()
         } else if is_cash {

@@ -93,6 +93,29 @@ fn cases() {
 }
 
 #[test]
+fn sentences() {
+    let program = env!("CARGO_BIN_EXE_sentences");
+    let list = lines(program, &["list"]);
+    let number = |line: &String| line.split(' ').next().unwrap().parse::<usize>().unwrap();
+    assert!(list.iter().map(number).eq(0..list.len()));
+    assert!(!lines(program, &["implied"]).is_empty());
+    let output = Command::new(program).arg("cases").output().unwrap();
+    let mut rest = &output.stdout[..];
+    let mut count = 0;
+    while !rest.is_empty() {
+        let mut four = || u32::from_le_bytes(take(&mut rest, 4).try_into().unwrap()) as usize;
+        let (_, number) = (four(), four());
+        let [book, input, answer] = [(); 3].map(|()| four());
+        let status = four() as i32;
+        let said = list[number].split(' ').nth(1).unwrap().parse::<i32>();
+        assert!(said == Ok(status) || said == Ok(0) && status != -102 && status != -103);
+        take(&mut rest, 2 * (book + answer) + input);
+        count += 1;
+    }
+    assert_eq!(lines(program, &["count"]), [count.to_string()]);
+}
+
+#[test]
 fn books() {
     let program = env!("CARGO_BIN_EXE_books");
     let printed = lines(program, &["3", "128"]);

@@ -1,13 +1,15 @@
-//! `calls [--seed S] [--cases N] [--runs N] [--seconds T] [--only NAME N]`: holds the library to the second program: N
-//! random cases of each call (else 50,000) and one sequence of calls on one book for every ten of them; then holds it
-//! to itself: runs of results in two orders, until N (else 10,000) have been compared. With --seconds all of this goes
-//! on for so long instead, and with 0 until ten have failed. With --only it runs one case of a call, one `sequence`, or
-//! one `run` of the seed again. After every call that is accepted the book is sound, after every other it is as before.
-//! Prints how often each status came; its last line is 'N passed, M failed'.
+//! `calls [--seed S] [--cases N] [--runs N] [--seconds T] [--only NAME N] [--sentences TEXT]`: holds the library to the
+//! second program: each sentence of the rules, broken and kept; N random cases of each call (else 50,000) and one
+//! sequence of calls on one book for every ten of them. Then it holds the library to itself: runs of results in two
+//! orders, until N (else 10,000) have been compared. With --seconds all of this goes on for so long instead, and with 0
+//! until ten have failed. With --only it runs one case of a call, one `sequence`, or one `run` of the seed again; with
+//! --sentences nothing but the sentences that have TEXT in their labels. After every call that is accepted the book is
+//! sound, after every other it is as before. Prints how often each status came; its last line is 'N passed, M failed'.
 
 mod area;
 mod library;
 mod runs;
+mod sentences;
 
 use area::Area;
 use library::{Run, CALLS};
@@ -237,6 +239,7 @@ struct Asked {
     runs: u64,
     seconds: Option<u64>,
     only: Option<(String, u64)>,
+    sentences: Option<String>,
 }
 
 fn asked() -> Option<Asked> {
@@ -246,6 +249,7 @@ fn asked() -> Option<Asked> {
         runs: RUNS,
         seconds: None,
         only: None,
+        sentences: None,
     };
     let mut words = std::env::args().skip(1);
     while let Some(word) = words.next() {
@@ -255,6 +259,7 @@ fn asked() -> Option<Asked> {
             "--cases" => asked.cases = number()?,
             "--runs" => asked.runs = number()?,
             "--seconds" => asked.seconds = Some(number()?),
+            "--sentences" => asked.sentences = Some(words.next()?),
             "--only" => asked.only = Some((words.next()?, words.next()?.parse().ok()?)),
             _ => return None,
         }
@@ -289,6 +294,7 @@ fn run_all(tally: &mut Tally, asked: &Asked) {
     let mut number = 1;
     while goes_on(number, tally.failed) {
         if number == 1 {
+            sentences::run(tally, "");
             run_on_small_stacks(tally, asked.seed);
         }
         for (call, run) in CALLS {
@@ -322,16 +328,21 @@ fn run_all(tally: &mut Tally, asked: &Asked) {
 
 fn main() {
     let mut tally = Tally::default();
-    let done = asked().and_then(|asked| match &asked.only {
-        Some((name, number)) => run_one(&mut tally, asked.seed, name, *number),
-        None => {
+    let done = asked().and_then(|asked| match (&asked.only, &asked.sentences) {
+        (_, Some(text)) => {
+            sentences::run(&mut tally, text);
+            Some(())
+        }
+        (Some((name, number)), _) => run_one(&mut tally, asked.seed, name, *number),
+        _ => {
             run_all(&mut tally, &asked);
             Some(())
         }
     });
     if done.is_none() {
         eprintln!(
-            "usage: calls [--seed S] [--cases N] [--runs N] [--seconds T] [--only CALL-or-'sequence'-or-'run' N]"
+            "usage: calls [--seed S] [--cases N] [--runs N] [--seconds T] [--sentences TEXT] \
+             [--only CALL-or-'sequence'-or-'run' N]"
         );
         std::process::exit(2);
     }
