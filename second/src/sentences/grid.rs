@@ -264,7 +264,7 @@ fn ranges_of_trading_rows(list: &mut List) {
     list.range_of(SETTLEMENT, M1, -MAX_MONEY, MAX_MONEY, alone);
     list.range_of(SETTLEMENT, Time, 0, MAX_DUE_TIME, alone);
     // No trade's cash flag is above 1: S9 is broken, too.
-    for flags in [2, 3, 128, 255] {
+    for flags in [0, 1, 2, 3, 128, 255] {
         let mut rows = if flags % 2 == 0 {
             spare(SETTLEMENT)
         } else {
@@ -272,7 +272,8 @@ fn ranges_of_trading_rows(list: &mut List) {
         };
         let settlement = rows.iter_mut().find(|row| row.kind == SETTLEMENT);
         settlement.unwrap().flags = flags;
-        list.push(format!("S1 settlement flags {flags}"), &rows, &[S1, S9]);
+        let breaks: &[Rule] = if flags <= 1 { &[] } else { &[S1, S9] };
+        list.push(format!("S1 settlement flags {flags}"), &rows, breaks);
     }
     list.range_of(CASH, Id, 1, MAX_TRADE_NUMBER, same_trade);
     list.range_of(CASH, M1, -MAX_MONEY, MAX_MONEY, |rows| {

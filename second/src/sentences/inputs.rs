@@ -87,6 +87,10 @@ pub(super) fn add(list: &mut List) {
         for kind in (0..=255).filter(|kind| *kind != call.kind()) {
             list.record(call, &format!("kind {kind}"), Row { kind, ..usual }, false);
         }
+        for other in Call::ALL.into_iter().filter(|other| *other != call) {
+            let label = format!("the record of another call, {}", other.name());
+            list.record(call, &label, usual_record(other), false);
+        }
         for at in unused_places(used) {
             for value in [1, 128] {
                 let row = with_byte(usual, at, value);
@@ -134,10 +138,11 @@ pub(super) fn add(list: &mut List) {
     for typ in [TLB, TLS, TSL] {
         list.input_range(Call::Order, Row { typ, ..limit }, N2, 1, MAX_PRICE);
     }
-    for record in [market, limit] {
-        for typ in [0, TSL + 1, 128, 255] {
+    for (record, good) in [(market, TMB..=TMS), (limit, TLB..=TSL)] {
+        for typ in [TMB, TMS, TLB, TLS, TSL, 0, TSL + 1, 128, 255] {
             let label = format!("typ {typ}, bid {}", record.n2);
-            list.record(Call::Order, &label, Row { typ, ..record }, false);
+            let row = Row { typ, ..record };
+            list.record(Call::Order, &label, row, good.contains(&typ));
         }
         list.input_range(Call::Order, record, Flags, 0, 7);
         list.input_range(Call::Order, record, Party, 1, MAX_NUMBER);

@@ -275,10 +275,10 @@ fn place_of(field: Field) -> (usize, usize) {
 }
 
 /// The row with another value in one field; a negative one in two's complement.
-pub(super) fn with(row: Row, field: Field, value: i128) -> Row {
+pub(super) fn with(row: Row, field: Field, value: impl Into<i128>) -> Row {
     let (at, len) = place_of(field);
     let mut bytes = row.write();
-    bytes[at..at + len].copy_from_slice(&value.to_le_bytes()[..len]);
+    bytes[at..at + len].copy_from_slice(&value.into().to_le_bytes()[..len]);
     Row::read(&bytes)
 }
 

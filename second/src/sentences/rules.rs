@@ -85,55 +85,19 @@ fn keys(list: &mut List) {
     );
     differ(
         "band type",
-        &[
-            band(5, 5),
-            Row {
-                typ: TMB,
-                ..band(5, 5)
-            },
-        ],
+        &[band(5, 5), with(band(5, 5), Field::Typ, TMB)],
     );
     differ(
         "band tier",
-        &[
-            band(5, 5),
-            Row {
-                status: 3,
-                ..band(5, 5)
-            },
-        ],
+        &[band(5, 5), with(band(5, 5), Field::Status, 3)],
     );
     differ(
         "band exchange",
-        &[
-            band(5, 5),
-            Row {
-                flags: 3,
-                ..band(5, 5)
-            },
-        ],
+        &[band(5, 5), with(band(5, 5), Field::Flags, 3)],
     );
     differ("band from", &[band(5, 5), band(6, 6)]);
-    differ(
-        "charge type",
-        &[
-            charge(),
-            Row {
-                typ: TLS,
-                ..charge()
-            },
-        ],
-    );
-    differ(
-        "charge tier",
-        &[
-            charge(),
-            Row {
-                status: 3,
-                ..charge()
-            },
-        ],
-    );
+    differ("charge type", &[charge(), with(charge(), Field::Typ, TLS)]);
+    differ("charge tier", &[charge(), with(charge(), Field::Status, 3)]);
     let far = NEW_TRADE + (1 << 32);
     differ(
         "trade number's upper half",
@@ -249,10 +213,7 @@ fn names(list: &mut List) {
         &[cash(NEW_TRADE)],
     );
     let settled = [
-        Row {
-            flags: FLAG_CASH,
-            ..settlement(NEW_TRADE)
-        },
+        with(settlement(NEW_TRADE), Field::Flags, FLAG_CASH),
         cash(NEW_TRADE),
     ];
     list.bad("S3 settlement trade and cash trade", &[S3], &settled);
@@ -389,33 +350,15 @@ fn bands(list: &mut List) {
     );
     list.good(
         "S4 overlap in another type",
-        &[
-            band(5, 20),
-            Row {
-                typ: TMB,
-                ..band(10, 12)
-            },
-        ],
+        &[band(5, 20), with(band(10, 12), Field::Typ, TMB)],
     );
     list.good(
         "S4 overlap in another tier",
-        &[
-            band(5, 20),
-            Row {
-                status: 3,
-                ..band(10, 12)
-            },
-        ],
+        &[band(5, 20), with(band(10, 12), Field::Status, 3)],
     );
     list.good(
         "S4 overlap in another exchange",
-        &[
-            band(5, 20),
-            Row {
-                flags: 3,
-                ..band(10, 12)
-            },
-        ],
+        &[band(5, 20), with(band(10, 12), Field::Flags, 3)],
     );
 }
 
