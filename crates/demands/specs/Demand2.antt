@@ -1,7 +1,8 @@
 -- Demand 2: each status is given exactly when its condition holds and no earlier one does. For each call its lines of
 -- the table "Status numbers, in order of checking", each condition as the rules say it; and one claim over every call,
--- all bytes and all lengths. What a call that succeeds leaves in the book and in the answer is what the rules define,
--- by its promise: `Promise` of the model's Call.antt. Proved in Checked.antt. Assumes nothing.
+-- all bytes and all lengths, said twice: for each status, `Demand2`, and line by line, `LineByLine`. What a call that
+-- succeeds leaves in the book and in the answer is what the rules define, by its promise: `Promise` of the model's
+-- Call.antt. Proved in Checked.antt and LineByLine.antt. Assumes nothing.
 use mathlib.Core.Path.{_≡_}
 use mathlib.Core.List.{List, [], _∷_, _++_, List·Memᴰ}
 use mathlib.Core.Logic.{_⊎_, _↔_}
@@ -197,3 +198,16 @@ Demand2 =
     (c : Call) (book input answer : List ℕ) (returned : ℤ) (book′ answer′ : List ℕ)
     → Promise (run c book input answer) returned book′ answer′
     → (s : Status) → (returned ≡ number s) ↔ Due s (table c book input answer)
+
+-- ---- the same, line by line: a line's status is given exactly when its condition holds and no earlier one does, and
+-- success exactly when none does
+abbrev pub Exactly : ℤ → Type 0 → List Line → Type 0
+Exactly n NoEarlier [] = (n ≡ number Done) ↔ NoEarlier
+Exactly n NoEarlier (l ∷ ls) =
+    ((n ≡ number (l .status)) ↔ (NoEarlier × l .When)) × Exactly n (NoEarlier × (l .When → ⊥)) ls
+
+abbrev pub LineByLine : Type 0
+LineByLine =
+    (c : Call) (book input answer : List ℕ) (returned : ℤ) (book′ answer′ : List ℕ)
+    → Promise (run c book input answer) returned book′ answer′
+    → Exactly returned (Unit {0}) (table c book input answer)

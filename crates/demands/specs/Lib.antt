@@ -5,3 +5,4 @@ pub mod Demand2
 pub mod Lines
 pub mod Conditions
 pub mod Checked
+pub mod LineByLine
