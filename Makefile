@@ -2,8 +2,9 @@
 #
 #     make install PREFIX=/usr/local DESTDIR=
 #
-# The headers, the archive libbook.a, the shared object libbook.so.MAJOR and book.pc for pkg-config. The archive is the
-# one in BOOK_DIR; else that of the package that this file came with (lib/), or the one that was built here.
+# The headers, the archive libbook.a, book.pc for pkg-config, and the shared object libbook.so.MAJOR, which is linked
+# here, as Linux has it; `make install-archive` does without it. The archive is the one in BOOK_DIR; else that of the
+# package that this file came with (lib/), or the one that was built here.
 PREFIX = /usr/local
 DESTDIR =
 OUT = target/install
@@ -36,11 +37,14 @@ $(OUT)/book.pc: include/book.h again
 		'Description: a brokerage book that is proved, TPC-E transactions on rows of 64 bytes' \
 		'Version: $(VERSION)' 'Cflags: -I$${includedir}' 'Libs: -L$${libdir} -lbook' >$@
 
-install: all
+install: install-archive shared
+	cp $(OUT)/$(SHARED) $(DESTDIR)$(PREFIX)/lib/
+	ln -sf $(SHARED) $(DESTDIR)$(PREFIX)/lib/libbook.so
+
+install-archive: $(ARCHIVE) $(OUT)/book.pc
 	mkdir -p $(DESTDIR)$(PREFIX)/include $(DESTDIR)$(PREFIX)/lib/pkgconfig
 	cp $(HEADERS) $(DESTDIR)$(PREFIX)/include/
-	cp $(ARCHIVE) $(OUT)/$(SHARED) $(DESTDIR)$(PREFIX)/lib/
-	ln -sf $(SHARED) $(DESTDIR)$(PREFIX)/lib/libbook.so
+	cp $(ARCHIVE) $(DESTDIR)$(PREFIX)/lib/
 	cp $(OUT)/book.pc $(DESTDIR)$(PREFIX)/lib/pkgconfig/
 
 uninstall:
@@ -54,4 +58,4 @@ $(ARCHIVE):
 	@echo "There is no $@. Name the folder of another libbook.a by BOOK_DIR, or build it: see README.md." >&2
 	@exit 1
 
-.PHONY: all shared install uninstall version again
+.PHONY: all shared install install-archive uninstall version again
