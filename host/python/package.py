@@ -110,6 +110,10 @@ class Rows(unittest.TestCase):
                        {"symbol": "\u20ac"}):
             self.assertRaises(ValueError, Row(**fields).write)
 
+    def test_repr(self):
+        self.assertEqual(repr(SECURITY), "Row(kind=6, type=1, symbol='ABC', n1=200)")
+        self.assertEqual(eval(repr(SECURITY)), SECURITY)
+
     def test_signed_fields_and_tax(self):
         self.assertEqual(Row.read(Row(m1=-5, n1=-1, n5=-102).write()), Row(m1=-5, n1=-1, n5=-102))
         self.assertEqual(Row(symbol="\x10\x27").tax, 10000)

@@ -9,7 +9,7 @@ assert _RECORD.size == RECORD_SIZE
 _SYMBOL = 8
 
 
-@dataclasses.dataclass
+@dataclasses.dataclass(repr=False)
 class Row:
     """A record, its fields in the order of their places. book.h says which of them a kind uses, and what for.
 
@@ -47,6 +47,11 @@ class Row:
             return _RECORD.pack(*fields)
         except struct.error as fault:
             raise ValueError(f"a field of {self} does not fit: {fault}") from None
+
+    def __repr__(self):
+        """The fields that are not zero."""
+        fields = ((field.name, getattr(self, field.name)) for field in dataclasses.fields(self))
+        return f"Row({', '.join(f'{name}={value!r}' for name, value in fields if value)})"
 
     @property
     def tax(self):
