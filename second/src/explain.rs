@@ -5,6 +5,7 @@ use crate::calls::{Call, BAD_INPUT, BOOK_LENGTH, NOT_SOUND, WRONG_LENGTH};
 use crate::record::*;
 use crate::sound::{self, key, Rule};
 use crate::words;
+use std::collections::HashMap;
 
 /// A row that breaks the rule; its place is counted from 0.
 #[derive(Clone, Debug, PartialEq, Eq)]
@@ -151,17 +152,14 @@ fn s4(rows: &Rows) -> Option<(usize, String)> {
 
 /// "S5 a customer's rates sum to at most 100,000."
 fn s5(rows: &Rows) -> Option<(usize, String)> {
+    let mut sums: HashMap<u32, u64> = HashMap::new();
     for (place, row) in rows.of(CUSTOMER_RATE) {
-        let up_to_here = rows
-            .of(CUSTOMER_RATE)
-            .filter(|(at, other)| *at <= place && other.party == row.party);
-        let rate = |number| u64::from(rows.party(TAX_RATE, number).expect("S3 holds here").n1);
-        let sum: u64 = up_to_here.map(|(_, other)| rate(other.n1)).sum();
-        if sum > u64::from(MAX_RATE) {
-            return Some((
-                place,
-                format!("with it the customer's rates sum to {sum}, above {MAX_RATE}"),
-            ));
+        let rate = rows.party(TAX_RATE, row.n1).expect("S3 holds here").n1;
+        let sum = sums.entry(row.party).or_default();
+        *sum += u64::from(rate);
+        if *sum > u64::from(MAX_RATE) {
+            let why = format!("with it the customer's rates sum to {sum}, above {MAX_RATE}");
+            return Some((place, why));
         }
     }
     None
