@@ -12,12 +12,13 @@ ghost use Rattle.laws.specs.Change.{sets};
 ghost use Rattle.rules.specs.Ranges.{sharesMost};
 ghost use Rattle.model.specs.Lots.{size, taken};
 ghost use Rattle.model.specs.Rows.{nothing, rows};
-ghost use Rattle.model.specs.Sound.{s1, s2};
+ghost use Rattle.model.specs.Sound.{s1, s2, sound};
 ghost use Rattle.queue.specs.Queue.{queueMost};
 ghost use Rattle.shelf.specs.Put.{Free};
 ghost use Rattle.tables.specs.Bucket.{keyBucket};
 ghost use Rattle.tables.specs.Table.{Indexed};
 ghost use Rattle.lots.specs.Lots.{lotsOf};
+ghost use Rattle.verdict.specs.NoLots.{summaryOf};
 ghost use Rattle.result.specs.Add.{Added};
 ghost use Rattle.result.specs.Close.{closed, closingRow, partPut};
 ghost use Rattle.result.specs.Place.{placed, span, spot};
@@ -63,8 +64,8 @@ fn find_lots(
     }
 }
 
-// The places of the lots that a trade closes, the first to close last.
-pub fn lot_places(
+// The places of the lots that a trade closes, found in the book by their marks, the first to close last.
+fn places_found(
     book: &[u8],
     keys: &[u16; Slots::ALL],
     trade: Row,
@@ -80,6 +81,26 @@ pub fn lot_places(
     let n = gather(book, trade, &mut times, &mut ids);
     find_lots(book, keys, &ids, n, at);
     n
+}
+
+// The same of a trade whose summary is known: without one there are no lots, and the book is not gone through.
+pub fn lot_places(
+    book: &[u8],
+    keys: &[u16; Slots::ALL],
+    trade: Row,
+    summary: Row,
+    at: &mut [u16; Queue::MOST],
+) -> usize
+    requires { ⌜ Indexed keyBucket (now book) (now keys) 0 ⌝ }
+    requires { ⌜ (sound (rows (now book)) ≡ true) × (summary ≡ summaryOf (rows (now book)) trade) ⌝ }
+    ensures { λ r. ⌜ span (now (at .exit)) r r
+        ≡ map (spot (rows (now (book .entry)))) (lotsOf (rows (now (book .entry))) trade) ⌝ }
+    ensures { λ r. ⌜ r ≤ queueMost ⌝ }
+{
+    if summary.kind == Kind::FREE {
+        return 0;
+    }
+    places_found(book, keys, trade, at)
 }
 
 // What is told of the lots that are closed: where the next search for a free place begins, how many go, and of the one

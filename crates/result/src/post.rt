@@ -36,7 +36,7 @@ pub fn post(book: &mut [u8], keys: &[u16; Slots::ALL], input: Row, terms: Terms,
     let broker = party_row(book, keys, Kind::BROKER, terms.account.n1);
     let to = find_places(book, keys, input.id, terms);
     let mut at = [0; Queue::MOST];
-    let count = lot_places(book, keys, trade, &mut at);
+    let count = lot_places(book, keys, trade, terms.summary, &mut at);
     let closed = add_closings(book, &at, count, trade);
     add_own(book, closed.next, input, terms, figures);
     reduce(book, trade, closed.place, closed.lot, closed.left);

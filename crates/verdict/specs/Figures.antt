@@ -22,7 +22,7 @@ use Rattle.rules.specs.Rules.{as-kind, resultInput}
 use Rattle.model.specs.Flags.{cash}
 use Rattle.model.specs.Lots.{walk}
 use Rattle.model.specs.Money.{commissionOf, settlementOf, taxOf, untaxed}
-use Rattle.model.specs.Names.{aCustomer, aSecurity, aSummary, aTrade, anAccount}
+use Rattle.model.specs.Names.{aCustomer, aSecurity, aTrade, anAccount}
 use Rattle.model.specs.Result.{View, figures, view}
 use Rattle.model.specs.Result
 use Rattle.model.specs.Rows.{found, hasKey, is}
@@ -35,6 +35,7 @@ use Rattle.lots.specs.Walk.{made}
 use Rattle.lots.specs.declared.walk.Walk.{Walk}
 use Rattle.verdict.specs.declared.figures.Figures.{Figures}
 use Rattle.verdict.specs.declared.figures.Terms.{Terms}
+use Rattle.verdict.specs.NoLots.{summaryOf}
 
 -- of the view
 abbrev pub termsSeen : View → Terms
@@ -105,7 +106,7 @@ module _ (rs : List Row) (input : Row) {t : Terms} (good : sound rs ≡ true) (h
   unfolding termsOf view
   trade-shares = rw h (shares-most rs (input .id) (sound-s1 rs good))
 
-  pub summary-found : t .summary ≡ found (aSummary (t .trade .party) (t .trade .symbol)) rs
+  pub summary-found : t .summary ≡ summaryOf rs (t .trade)
   unfolding termsOf view
   summary-found = rw h
 

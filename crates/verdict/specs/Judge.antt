@@ -274,7 +274,8 @@ module _ (rs : List Row) (input : Row) where
   judged-status = decided-is rs input (view rs input) refl .0
 
   pub judged-outcome : isDone resultStatus ≡ true
-      → result rs input ≡ accepted (posting input (view rs input) (figures input (view rs input)) .answer ∷ []) resultRows
+      → result rs input
+      ≡ accepted (posting input (view rs input) (figures input (view rs input)) .answer ∷ []) resultRows
   unfolding result resultStatus resultRows termsOf figuresOf view
   judged-outcome d = decided-is rs input (view rs input) refl .1 ∙ rw d
 

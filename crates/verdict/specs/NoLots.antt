@@ -5,6 +5,7 @@ use mathlib.Core.List.{List, [], _∷_, List·Memᴰ, List·Memᴰ·head}
 use Prim.Native.Nat.{ℕ, _*_}
 use native.Mathlib.Omega.{arith}
 use lib.Dec.{eqb}
+use lib.ListN.{length}
 use borrow.Author.Tests.{eqb-true, le-leb}
 use Rattle.laws.specs.Keep.{keep-from}
 use Rattle.laws.specs.Search.{count, keep, run}
@@ -16,7 +17,7 @@ use Rattle.record.specs.KeyLaws.{same-keys}
 use Rattle.record.specs.declared.key.Key.{Key}
 use Rattle.record.specs.declared.row.Row.{Row}
 use Rattle.rules.specs.Ranges.{priceMost}
-use Rattle.model.specs.Lots.{closes, lotsFor, start, walk}
+use Rattle.model.specs.Lots.{closes, closings, lotsFor, start, walk}
 use Rattle.model.specs.Money.{buys}
 use Rattle.model.specs.Names.{aSummary}
 use Rattle.model.specs.Rows.{found, hasKey, is, there}
@@ -26,6 +27,10 @@ use Rattle.shelf.specs.Put.{found-has}
 use Rattle.lots.specs.Lots.{lotsOf}
 use Rattle.lots.specs.Walk.{Within, made, seen}
 use Rattle.lots.specs.declared.walk.Walk.{Walk}
+
+-- the row of a trade's holding, nothing where it has none
+abbrev pub summaryOf : List Row → Row → Row
+summaryOf rs t = found (aSummary (t .party) (t .symbol)) rs
 
 no-member : {A : Type 0} (l : List A) → ((x : A) → List·Memᴰ x l → ⊥) → l ≡ []
 no-member [] h = refl
@@ -39,8 +44,8 @@ found-summary rs a s t =
     ap (λ (x : Key). x .kind)
     (same-keys (keyOf (found k rs)) k (found-has k rs (le-leb 1 (count (hasKey k) rs) t)))
 
-module _ (rs : List Row) (good : sound rs ≡ true) (t : Row) {q : Row}
-    (h : q ≡ found (aSummary (t .party) (t .symbol)) rs) (e : q .kind ≡ kindFree) where
+module _ (rs : List Row) (good : sound rs ≡ true) (t : Row) {q : Row} (h : q ≡ summaryOf rs t)
+    (e : q .kind ≡ kindFree) where
   none-closes : (r : Row) → List·Memᴰ r (keep (closes (t .form) (t .party) (t .symbol)) rs) → ⊥
   none-closes r m =
       let a = t .party in
@@ -60,7 +65,12 @@ module _ (rs : List Row) (good : sound rs ≡ true) (t : Row) {q : Row}
   unfolding lotsFor sort
   no-lots = rw (no-member (keep (closes (t .form) (t .party) (t .symbol)) rs) none-closes)
 
-  -- so the walk over them has only begun
+  -- so none is closed
+  pub none-closed : 0 ≡ length (closings (t .n1) (lotsOf rs t))
+  unfolding closings
+  none-closed = rw no-lots
+
+  -- and the walk over them has only begun
   pub no-walk : (price : ℕ) {w : Walk} → w ≡ made (start (t .n1))
       → (w ≡ made (walk (t .form) price (t .n1) (lotsOf rs t))) × Within (t .n1 * priceMost) (seen w)
   unfolding walk run

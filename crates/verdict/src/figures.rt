@@ -13,14 +13,14 @@ ghost use Rattle.rules.specs.Rules.{resultInput};
 ghost use Rattle.model.specs.Flags.{cash};
 ghost use Rattle.model.specs.Lots.{walk};
 ghost use Rattle.model.specs.Money.{settlementOf};
-ghost use Rattle.model.specs.Names.{aSummary};
-ghost use Rattle.model.specs.Rows.{found, rows};
+ghost use Rattle.model.specs.Rows.{rows};
 ghost use Rattle.model.specs.Sound.{sound};
 ghost use Rattle.tables.specs.Bucket.{keyBucket, steadyBucket};
 ghost use Rattle.tables.specs.Table.{Indexed};
 ghost use Rattle.lots.specs.Lots.{lotsOf};
 ghost use Rattle.lots.specs.Walk.{Within, made, seen};
 ghost use Rattle.verdict.specs.Figures.{figuresOf, termsOf};
+ghost use Rattle.verdict.specs.NoLots.{summaryOf};
 use crate::signed::added;
 use crate::signed::settled;
 use kinds::units::Cents;
@@ -116,8 +116,7 @@ fn balance(trade: Row, account: Row, settlement: Cents) -> Cents
 // The walk over the lots that a trade closes. Without a summary there are none, and the book is not gone through.
 fn walked(book: &[u8], keys: &[u16; Slots::ALL], trade: Row, summary: Row, price: Price) -> Walk
     requires { ⌜ Indexed keyBucket (now book) (now keys) 0 ⌝ }
-    requires { ⌜ (sound (rows (now book)) ≡ true)
-        × (summary ≡ found (aSummary (trade .party) (trade .symbol)) (rows (now book))) ⌝ }
+    requires { ⌜ (sound (rows (now book)) ≡ true) × (summary ≡ summaryOf (rows (now book)) trade) ⌝ }
     requires { ⌜ (price .0 ≤ priceMost) × (trade .n1 ≤ sharesMost) ⌝ }
     ensures { λ r. ⌜ r ≡ made (walk (trade .form) (price .0) (trade .n1) (lotsOf (rows (now (book .entry))) trade)) ⌝ }
     ensures { λ r. ⌜ Within (trade .n1 * priceMost) (seen r) ⌝ }

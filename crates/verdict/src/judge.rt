@@ -4,13 +4,18 @@ ghost use mathlib.Core.Path.{_≡_};
 ghost use Prim.Native.Nat.{_≤_};
 ghost use lib.Dec.{leb};
 ghost use lib.IntN.{natAbs};
+ghost use lib.ListN.{length};
 ghost use Rattle.record.specs.Signed.{up};
 ghost use Rattle.rules.specs.Ranges.{fee, moneyMost};
+ghost use Rattle.model.specs.Lots.{closings};
 ghost use Rattle.model.specs.Rows.{rows};
-ghost use Rattle.model.specs.Sound.{s2};
+ghost use Rattle.model.specs.Sound.{sound};
+ghost use Rattle.queue.specs.Queue.{queueMost};
 ghost use Rattle.tables.specs.Bucket.{keyBucket};
 ghost use Rattle.tables.specs.Table.{Indexed};
+ghost use Rattle.lots.specs.Lots.{lotsOf};
 ghost use Rattle.verdict.specs.Judge.{inRange, judged, ownRows, rowsAdded};
+ghost use Rattle.verdict.specs.NoLots.{summaryOf};
 use crate::figures::Figures;
 use crate::figures::Terms;
 use crate::figures::is_cash;
@@ -72,17 +77,32 @@ fn own_rows(trade: Row, summary: Row, left: u64) -> usize
     opened + fresh + 2 + either(is_cash(trade.flags), 1, 0)
 }
 
+// How many lots a trade closes. Without a summary there are none, and the book is not gone through.
+fn lots_closed(book: &[u8], keys: &[u16; Slots::ALL], trade: Row, summary: Row) -> usize
+    requires { ⌜ Indexed keyBucket (now book) (now keys) 0 ⌝ }
+    requires { ⌜ (sound (rows (now book)) ≡ true) × (summary ≡ summaryOf (rows (now book)) trade) ⌝ }
+    ensures { λ r. ⌜ r ≡ length (closings (trade .n1) (lotsOf (rows (now (book .entry))) trade)) ⌝ }
+    ensures { λ r. ⌜ r ≤ queueMost ⌝ }
+{
+    if summary.kind == Kind::FREE {
+        return 0;
+    }
+    closed(book, keys, trade)
+}
+
 fn rows_added(book: &[u8], keys: &[u16; Slots::ALL], terms: Terms, left: Shares) -> usize
     requires { ⌜ Indexed keyBucket (now book) (now keys) 0 ⌝ }
-    requires { ⌜ s2 (rows (now book)) ≡ true ⌝ }
+    requires { ⌜ (sound (rows (now book)) ≡ true) × (terms .summary ≡ summaryOf (rows (now book)) (terms .trade)) ⌝ }
     ensures { λ r. ⌜ r ≡ rowsAdded (rows (now (book .entry))) (terms .trade) (terms .summary) (up (left .0)) ⌝ }
 {
-    closed(book, keys, terms.trade) + own_rows(terms.trade, terms.summary, in_shares(left))
+    let closing = lots_closed(book, keys, terms.trade, terms.summary);
+    closing + own_rows(terms.trade, terms.summary, in_shares(left))
 }
 
 pub fn judge(book: &[u8], keys: &[u16; Slots::ALL], terms: Terms, figures: Figures) -> Status
     requires { ⌜ Indexed keyBucket (now book) (now keys) 0 ⌝ }
-    requires { ⌜ (s2 (rows (now book)) ≡ true) × (up (figures .commission .0) ≤ fee .high) ⌝ }
+    requires { ⌜ (sound (rows (now book)) ≡ true) × (terms .summary ≡ summaryOf (rows (now book)) (terms .trade)) ⌝ }
+    requires { ⌜ up (figures .commission .0) ≤ fee .high ⌝ }
     ensures { λ s. ⌜ s ≡ judged (rows (now (book .entry))) terms figures ⌝ }
 {
     if terms.trade.kind == Kind::FREE {

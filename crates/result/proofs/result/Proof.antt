@@ -2,7 +2,7 @@
 -- put. Assumes nothing.
 use mathlib.Core.Path.{_≡_}
 use lib.ListN.{length}
-use Rattle.tables.specs.Found.{sound-s2}
+use Rattle.verdict.specs.Figures.{summary-found}
 use Rattle.result.specs.Whole.{result-done, result-passed, result-refused}
 use borrow.Author.Needs.{needs}
 use Rattle.result.proofs.result.Statement.{statement}
@@ -18,8 +18,11 @@ figured-requires c κs =
 
 judge-requires : tie.Need-judge-requires
 judge-requires c κs =
-    let pre = (c .before .before .before .before .before .before .before) .pre in
-    (pre .0, (sound-s2 _ (pre .1 .1 .0 .0), c .before .figured .ensures .1))
+    let read = c .before .before .before in
+    let start = read .before .before .before .before in
+    let good = start .pre .1 .1 .0 .0 in
+    let known = summary-found _ (start .args .input) good (read .terms-of .ensures) in
+    (start .pre .0, ((good, known), c .before .figured .ensures .1))
 
 post-requires : tie.Need-post-requires
 post-requires c κs =

@@ -1,7 +1,7 @@
 -- Each row goes where the rules have it: what is added first, then what is changed and freed. Assumes nothing.
 use Rattle.shelf.specs.Put.{free-start}
 use Rattle.tables.specs.Found.{sound-s1, sound-s2}
-use Rattle.verdict.specs.Figures.{trade-shares}
+use Rattle.verdict.specs.Figures.{summary-found, trade-shares}
 use Rattle.result.specs.Post.{all-posted, broker-fits, left-fits, time-fits}
 use Rattle.result.specs.Summary.{few-rows, summary-seen}
 use borrow.Author.Needs.{needs}
@@ -12,7 +12,8 @@ lot-places-requires : tie.Need-lot-places-requires
 lot-places-requires c κs =
     let places = c .before .before in
     let start = places .before .before .before .before .before .before in
-    start .pre .0
+    let good = start .pre .1 .0 .0 in
+    (start .pre .0, (good, summary-found _ (start .args .input) good (start .pre .1 .1 .0 .0)))
 
 add-closings-requires : tie.Need-add-closings-requires
 add-closings-requires c κs =

@@ -6,7 +6,7 @@ use Rattle.verdict.proofs.judge.rows_added.Tie as tie
 
 returns : tie.Need-returns
 unfolding rowsAdded
-returns c = rw (c .own-rows .ensures .0, c .before .in-shares .ensures, c .before .before .closed .ensures .0)
+returns c = rw (c .own-rows .ensures .0, c .before .in-shares .ensures, c .before .before .lots-closed .ensures .0)
 
 pub rows-added-spec : {M : Type 1} → statement M
 rows-added-spec =
