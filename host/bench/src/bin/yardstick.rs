@@ -1,7 +1,8 @@
 //! `yardstick [CASES]`: holds the yardstick to the second program: the status, every byte of the answer and every byte
 //! of the book of CASES random results (else 20,000) on books of all sizes; and the status of books that are broken in
-//! every way that `second::mutate` knows, with one field of a row of each kind set to the ends of all ranges, and with
-//! one row as another. Prints how often each status came; its last line is 'N passed, M failed'.
+//! every way that `second::mutate` knows, with one field of a row of each kind set to the ends of all ranges, with one
+//! row as another, and with faults that hide each other. Prints how often each status came; its last line is 'N passed,
+//! M failed'.
 
 use bench::count_asked;
 use bench::yardstick::Yardstick;
@@ -183,8 +184,8 @@ fn fields(tally: &mut Tally, yardstick: &mut Yardstick) {
     println!("statuses of books with one field changed, and how often: {met:?}");
 }
 
-/// Books with one row replaced by a copy of another of its kind: a key is there twice, and yet the kind has as many rows
-/// as before.
+/// Books with one row replaced by a copy of another of its kind: a key is there twice, and yet the kind has as many
+/// rows as before.
 fn copies(tally: &mut Tally, yardstick: &mut Yardstick) {
     let mut met = BTreeMap::new();
     for number in 0..BOOKS_OF_COPIES {
@@ -205,6 +206,64 @@ fn copies(tally: &mut Tally, yardstick: &mut Yardstick) {
         }
     }
     println!("statuses of books with one row as another, and how often: {met:?}");
+}
+
+/// Books with two faults that hide each other: a trade and its history of a status that there is not, and a lot of no
+/// shares beside lots that add up without it.
+fn hidden_faults(tally: &mut Tally, yardstick: &mut Yardstick) {
+    let (mut statuses, mut lots) = (0, 0);
+    for number in 0..BOOKS_OF_COPIES {
+        let mut rng = Rng::of(5, 0, number);
+        let records = rng.between(18, 120) as usize;
+        let rows = rows_of(&gen::book(&mut rng, records));
+        let mut refused = |rows: &[Row], what: &str| {
+            let book = bytes_of(rows);
+            let both = (yardstick.status(&book), sound::status(&book));
+            tally.count(both == (-102, -102), || format!("{what}: {both:?}"));
+        };
+        for trade in rows
+            .iter()
+            .filter(|row| row.kind == TRADE && row.status != PNDG)
+        {
+            for status in [0, CMPT + 1] {
+                let mut rows = rows.clone();
+                let of_status = |row: &&mut Row| row.id == trade.id && row.status == trade.status;
+                rows.iter_mut()
+                    .filter(of_status)
+                    .for_each(|row| row.status = status);
+                refused(
+                    &rows,
+                    "a trade and its history of a status that there is not",
+                );
+                statuses += 1;
+            }
+            let of_trade = |row: &&Row| row.kind == LOT && row.id == trade.id;
+            let summed = |row: &&Row| {
+                row.kind == SUMMARY && row.party == trade.party && row.symbol == trade.symbol
+            };
+            let free = rows.iter().position(Row::is_free);
+            if let (CMPT, None, Some(_), Some(free)) = (
+                trade.status,
+                rows.iter().find(of_trade),
+                rows.iter().find(summed),
+                free,
+            ) {
+                let mut rows = rows.clone();
+                rows[free] = Row {
+                    kind: LOT,
+                    party: trade.party,
+                    id: trade.id,
+                    symbol: trade.symbol,
+                    n1: 1,
+                    ..Row::default()
+                };
+                refused(&rows, "a lot of no shares");
+                lots += 1;
+            }
+        }
+    }
+    tally.count(statuses > 0 && lots > 0, || "no hidden faults".to_string());
+    println!("{statuses} books with a trade and its history of no status, {lots} with a lot of no shares");
 }
 
 /// What a field of this row is set to: its first bytes are taken.
@@ -230,6 +289,7 @@ fn main() {
     broken_books(&mut tally, &mut yardstick);
     fields(&mut tally, &mut yardstick);
     copies(&mut tally, &mut yardstick);
+    hidden_faults(&mut tally, &mut yardstick);
     println!("{} passed, {} failed", tally.passed, tally.failed);
     std::process::exit(i32::from(tally.failed > 0));
 }
