@@ -28,6 +28,7 @@ use Rattle.model.specs.Rows.{found, is, mostRecords, rows, there, wholeRecords}
 use Rattle.model.specs.Sound.{sound}
 use Rattle.model.specs.SoundMeans.{SoundBook, means-sound}
 use Rattle.model.specs.Status.{number}
+use Rattle.reply.specs.Back.{one-status}
 use Rattle.kept.specs.Cases.{not-so}
 use Rattle.demands.specs.Conditions.{means-a-security, means-a-trade, means-absent, means-an-account}
 use Rattle.demands.specs.Conditions.{means-bad-book, means-fields, means-lengths, means-more, means-no-charge}
@@ -36,7 +37,6 @@ use Rattle.demands.specs.Conditions.{means-untaxed}
 use Rattle.demands.specs.Demand2.{Demand2, fedBy, feedLines, lookupLines, orderLines, ownLines, resultLines}
 use Rattle.demands.specs.Demand2.{table}
 use Rattle.demands.specs.Lines.{Told, exactly, given}
-use Rattle.demands.specs.Numbers.{one-status}
 
 -- ---- order
 abbrev orderTests : List Row → Row → List Bool

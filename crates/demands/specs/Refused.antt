@@ -25,11 +25,16 @@ use Rattle.model.specs.Status.{number}
 use Rattle.model.specs.Unposted.{refusal-leaves}
 use Rattle.model.specs.declared.Status.{Status}
 use Rattle.model.specs.declared.Status.the-variants.{BadBook, BadInput, BadLength, Done, Unsound}
-use Rattle.reply.specs.Back.{number-back}
+use Rattle.reply.specs.Back.{done-by, fits-32, number-back}
 use Rattle.kept.specs.Calls.{uncalled}
 use Rattle.kept.specs.Cases.{by-cases, not-so}
 use Rattle.demands.specs.Demand1.{Demand1, Keeps, Says}
-use Rattle.demands.specs.Numbers.{done-number, fits-32}
+
+-- the number of success is that of no refusal
+done-number : (s : Status) → isDone s ≡ true → number s ≡ number Done
+done-number s e =
+    let bits = eqb-true (ofZ w32 (number s)) 0 (done-by (number s) s refl ∙ e) in
+    sym (number-back (number s) s refl) ∙ ap (toZ w32) bits
 
 -- ---- the area of a refusal
 module _ (n : ℕ) (s : Status) (long : recordSize ≤ n) where

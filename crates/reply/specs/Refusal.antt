@@ -6,8 +6,6 @@ use Prim.Native.Nat.{ℕ, zero, suc, _+_, _-_, _/_, _≤_, _<_}
 use native.Mathlib.Nat.{suc-sub-suc, sub-zero, zero-sub}
 use native.Mathlib.Numerals.{add-one}
 use native.Mathlib.Omega.{arith}
-use lib.Dec.{eqb}
-use lib.IntN.{ℤ}
 use lib.ListN.{length, drop, replicate, set, take, length-replicate, replicate-append-replicate}
 use lib.Seq.{take-all, take-suc-set}
 use mir.Syntax.{w32}
@@ -20,10 +18,6 @@ use Rattle.model.specs.Call.{either, isDone, refusalArea}
 use Rattle.model.specs.Edit.{_≔_, bits32, new}
 use Rattle.model.specs.Status.{number}
 use Rattle.model.specs.declared.Status.{Status}
-use Rattle.model.specs.declared.Status.the-variants.{BadBook, BadInput, BadLength, Done, FeedNoSecurity, LookupNoTrade}
-use Rattle.model.specs.declared.Status.the-variants.{NoRoom, OrderNoAccount, OrderNoCharge, OrderNoRate}
-use Rattle.model.specs.declared.Status.the-variants.{OrderNoSecurity, OrderNoTax, OverLimit, ResultNoRate}
-use Rattle.model.specs.declared.Status.the-variants.{ResultNoTax, ResultNoTrade, ResultNotSubmitted, Unsound}
 use Rattle.shelf.specs.Rows.{putAt, putAt-in}
 
 -- the row that has the status and nothing else
@@ -59,30 +53,7 @@ refusal-put {a} {b} {r} n s h e f g =
     let k : 0 < length {A = ℕ} (replicate n 0) / 64 = rw length-replicate (omega arith) in
     g ∙ rw (e, f, putAt-in (replicate n 0) 0 (refusal s) k, encode-refusal s, drop-zeros 64 n)
 
--- ---- which status is none
-pub done-by : (z : ℤ) (s : Status) → z ≡ number s → eqb (ofZ w32 z) 0 ≡ isDone s
-done-by z s e = rw e (by s)
-  where
-    by : (s : Status) → eqb (ofZ w32 (number s)) 0 ≡ isDone s
-    by Done = refl
-    by BadLength = refl
-    by BadBook = refl
-    by Unsound = refl
-    by BadInput = refl
-    by OverLimit = refl
-    by NoRoom = refl
-    by OrderNoAccount = refl
-    by OrderNoSecurity = refl
-    by OrderNoTax = refl
-    by OrderNoRate = refl
-    by OrderNoCharge = refl
-    by ResultNoTrade = refl
-    by ResultNotSubmitted = refl
-    by ResultNoTax = refl
-    by ResultNoRate = refl
-    by FeedNoSecurity = refl
-    by LookupNoTrade = refl
-
+-- ---- how an area is left
 pub ends-done : {x : Bool} {a : List ℕ} (b c : List ℕ) (s : Status) → x ≡ isDone s → x ≡ true → a ≡ b
     → a ≡ either (isDone s) b c
 ends-done b c s e t h = h ∙ rw (sym e ∙ t)

@@ -1,6 +1,6 @@
 -- The number of a status is zero for one of them. Assumes nothing.
 use borrow.Author.Needs.{needs}
-use Rattle.reply.specs.Refusal.{done-by}
+use Rattle.reply.specs.Back.{done-by}
 use Rattle.reply.proofs.done.Statement.{statement}
 use Rattle.reply.proofs.done.Tie as tie
 
