@@ -14,8 +14,8 @@ use Rattle.record.specs.Codes.{kindFree, submitted}
 use Rattle.record.specs.Grid.{decode}
 use Rattle.record.specs.declared.row.Row.{Row}
 use Rattle.rules.specs.Ranges.{brokerTrades, commissionTotal, moneyMost, tradeNumber, volume}
-use Rattle.model.specs.Call.{Call, aFeed, aLookup, aResult, anOrder, decideOf, fieldsOf}
-use Rattle.model.specs.Call.{lengthsOf, replied, run, shell}
+use Rattle.model.specs.Call.{Call, aFeed, aLookup, aResult, anOrder, decideOf, fieldsOf, lengthsOf, replied, run}
+use Rattle.model.specs.Call.{shell}
 use Rattle.model.specs.Feed.{feed, volumesFit}
 use Rattle.model.specs.Flags.{rollBack}
 use Rattle.model.specs.Lookup.{lookup}
@@ -28,7 +28,7 @@ use Rattle.model.specs.Rows.{found, is, mostRecords, rows, there, wholeRecords}
 use Rattle.model.specs.Sound.{sound}
 use Rattle.model.specs.SoundMeans.{SoundBook, means-sound}
 use Rattle.model.specs.Status.{number}
-use Rattle.reply.specs.Back.{one-status}
+use Rattle.facts.specs.Status.{one-status}
 use Rattle.kept.specs.Cases.{not-so}
 use Rattle.demands.specs.Conditions.{means-a-security, means-a-trade, means-absent, means-an-account}
 use Rattle.demands.specs.Conditions.{means-bad-book, means-fields, means-lengths, means-more, means-no-charge}

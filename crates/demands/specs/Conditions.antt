@@ -28,10 +28,9 @@ use Rattle.model.specs.Money.{taxOf, taxable, untaxed}
 use Rattle.model.specs.Names.{aCharge, aSecurity, aTrade, anAccount}
 use Rattle.model.specs.Rows.{found, hasKey, is, mostRecords, nothing, recordSize, rows, there, wholeRecords}
 use Rattle.model.specs.Sound.{sound}
-use Rattle.shelf.specs.Put.{found-has, found-none}
-use Rattle.tables.specs.Found.{sound-s1, the-most}
-use Rattle.tables.specs.Names.{by-id, by-party, by-symbol}
-use Rattle.result.specs.Apart.{key-kind, of-live}
+use Rattle.facts.specs.Found.{found-has, found-none, sound-s1, the-most}
+use Rattle.facts.specs.Names.{by-id, by-party, by-symbol}
+use Rattle.facts.specs.Keys.{key-kind, of-live}
 use Rattle.kept.specs.Cases.{by-cases, none-passes, not-so}
 use Rattle.kept.specs.Once as once
 use Rattle.demands.specs.Demand2.{Account, Band, Charge, None, Records, RightFields, RightLengths, Security}

@@ -8,8 +8,7 @@ use Prim.Native.Nat.{ℕ, _+_, _-_, _*_, _%_, _≤_, _<_}
 use native.Mathlib.Omega.{arith}
 use lib.Dec.{eqb, leb, ltb}
 use lib.IntN.{ℤ}
-use lib.ListN.{length, getD, replicate, getD-replicate, length-replicate, List·getD-append}
-use lib.ListN.{List·getD-eq-default}
+use lib.ListN.{length, getD, replicate, getD-replicate, length-replicate, List·getD-append, List·getD-eq-default}
 use lib.Seq.{getD-append-add}
 use borrow.Author.Tests.{eqb-true, leb-true, ltb-false, ltb-true}
 use mir.Syntax.{w32}
@@ -25,7 +24,7 @@ use Rattle.model.specs.Status.{number}
 use Rattle.model.specs.Unposted.{refusal-leaves}
 use Rattle.model.specs.declared.Status.{Status}
 use Rattle.model.specs.declared.Status.the-variants.{BadBook, BadInput, BadLength, Done, Unsound}
-use Rattle.reply.specs.Back.{done-by, fits-32, number-back}
+use Rattle.facts.specs.Status.{done-by, fits-32, number-back}
 use Rattle.kept.specs.Calls.{uncalled}
 use Rattle.kept.specs.Cases.{by-cases, not-so}
 use Rattle.demands.specs.Demand1.{Demand1, Keeps, Says}

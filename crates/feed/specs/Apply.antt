@@ -15,26 +15,28 @@ use Rattle.laws.specs.Search.{every, keep, place, run, total}
 use Rattle.laws.specs.Sort.{every-sort, sort, sort-map}
 use Rattle.laws.specs.Tests.{and-left, and-right, and-true}
 use Rattle.laws.specs.Walk.{from-holds, left-next, left-none}
-use Rattle.record.specs.Codes.{kindFree, kindRequest, kindSecurity, kindTrade, pending}
+use Rattle.record.specs.Codes.{kindFree, kindRequest, kindSecurity, kindTrade, pending, submitted}
 use Rattle.record.specs.declared.row.Row.{Row}
-use Rattle.rules.specs.Ranges.{id, kind, m1, n1, status, volume, when}
+use Rattle.rules.specs.Ranges.{m1, n1, volume, when}
 use Rattle.model.specs.Edit.{_≔_, changed}
-use Rattle.model.specs.Feed.{Fed, applied, lower, reached, submits, traded, triggered}
+use Rattle.model.specs.Feed.{Fed, applied, lower, reached, sent, submits, traded, triggered}
 use Rattle.model.specs.Names.{aSecurity, aTrade}
 use Rattle.model.specs.Sound.{sound}
 use Rattle.model.specs.Rows.{found, hasKey, is, nothing, rows, sameRow, there}
+use Rattle.model.specs.History.{historyRow}
+use Rattle.facts.specs.Found.{found-has, found-none, sound-s1}
+use Rattle.facts.specs.Rows.{length-rows, put-found}
+use Rattle.facts.specs.Names.{by-symbol}
+use Rattle.facts.specs.Feed.{found-between, sharesFor, there-between, there-next, trade-key, volume-next}
+use Rattle.shelf.specs.Put.{Free, free-add, free-put, free-start}
+use Rattle.shelf.specs.Rows.{after, freeFrom, rowAt}
 use Rattle.queue.specs.Gather.{Gathering, gather-end}
 use Rattle.queue.specs.Queue.{Mark, markAt, ordered, queued, queued-last, sooner}
-use Rattle.shelf.specs.Put.{Free, found-has, found-none, free-add, free-put, free-start, put-found}
-use Rattle.shelf.specs.Rows.{after, freeFrom, length-rows, rowAt}
 use Rattle.tables.specs.Bucket.{steady-none, steady-security, steady-trade, steadyBucket}
-use Rattle.tables.specs.Found.{sound-s1}
-use Rattle.tables.specs.Names.{by-symbol}
 use Rattle.tables.specs.Table.{Indexed, key-row, table-put}
 use Rattle.feed.specs.Hits.{hits}
 use Rattle.feed.specs.Judge.{volumeFits}
-use Rattle.feed.specs.Submit.{found-between, history, sent, submitMark, there-between, there-submit, trade-key}
-use Rattle.feed.specs.Volumes.{sharesFor, there-next, volume-next}
+use Rattle.feed.specs.Submit.{submitMark, there-submit}
 
 -- ---- the book as the next step may take it
 pub record Ready (b steady : List ℕ) (from : ℕ) : Type 0 where
@@ -94,25 +96,25 @@ trade-kind i r e =
 
 -- the history row is in the lowest free place
 pub added : (b b′ steady : List ℕ) (time number from : ℕ) {h : Row} {next : ℕ} → Ready b steady from
-    → h ≡ history time number
+    → h ≡ historyRow submitted number time
     → length b′ ≡ length b → next ≡ after (rows b) (freeFrom (rows b) from)
     → rows b′ ≡ set (rows b) (freeFrom (rows b) from) h
-    → (rows b′ ≡ put sameRow nothing (history time number) (rows b)) × Ready b′ steady next
+    → (rows b′ ≡ put sameRow nothing (historyRow submitted number time) (rows b)) × Ready b′ steady next
 added b b′ steady time number from {h} {next} s e l n q =
-    let x = history time number in
+    let x = historyRow submitted number time in
     let r : rows b′ ≡ set (rows b) (freeFrom (rows b) from) x = q ∙ rw e in
     let add = free-add b b′ from x (s .free) refl n r in
     (add .0, record { indexed = table-put (s .indexed) b′ (freeFrom (rows b) from) x l r bucket; free = add .1 })
   where
     bucket : freeFrom (rows b) from < length b / 64
-        → steadyBucket (history time number) ≡ steadyBucket (rowAt b (freeFrom (rows b) from))
+        → steadyBucket (historyRow submitted number time) ≡ steadyBucket (rowAt b (freeFrom (rows b) from))
     bucket i =
         let f = from-holds (is kindFree) (rows b) from nothing (rw length-rows i) in
-        steady-none (history time number) refl refl
+        steady-none (historyRow submitted number time) refl refl
         ∙ sym (steady-none (rowAt b (freeFrom (rows b) from)) (eqb-true _ kindFree f) refl)
 
 pub submits-one : (b b₁ b₂ steady : List ℕ) (time number from : ℕ) {h t n : Row} {next at : ℕ} → Ready b steady from
-    → there (aTrade number) (rows b) ≡ true → h ≡ history time number → length b₁ ≡ length b
+    → there (aTrade number) (rows b) ≡ true → h ≡ historyRow submitted number time → length b₁ ≡ length b
     → next ≡ after (rows b) (freeFrom (rows b) from) → rows b₁ ≡ set (rows b) (freeFrom (rows b) from) h
     → at ≡ place (hasKey (aTrade number)) (rows b₁) → t ≡ rowAt b₁ at → n ≡ sent time t → length b₂ ≡ length b₁
     → rows b₂ ≡ set (rows b₁) at n
@@ -123,9 +125,9 @@ submits-one b b₁ b₂ steady time number from {h} {t} {n} {next} {at} s w e l�
     let k = aTrade number in
     let f : t ≡ found k (rows b₁) = key-row k b₁ a r in
     let g : found k (rows b₁) ≡ found k (rows b) =
-    ap (found k) (one .0) ∙ found-between (rows b) (time, number) number
+    ap (found k) (one .0) ∙ found-between (rows b) time number number
     in
-    let w₁ : there k (rows b₁) ≡ true = ap (there k) (one .0) ∙ there-between (rows b) (time, number) number ∙ w in
+    let w₁ : there k (rows b₁) ≡ true = ap (there k) (one .0) ∙ there-between (rows b) time number number ∙ w in
     let c = trade-kind number t (rw f (found-has k (rows b₁) w₁)) in
     let d : rowAt b₁ at .kind ≡ kindTrade = rw (← r) c in
     let y : rows b₂ ≡ put sameRow (found k (rows b₁)) (sent time (found k (rows b₁))) (rows b₁) =

@@ -11,8 +11,8 @@ use lib.Dec.{eqb}
 use lib.ListN.{length}
 use borrow.Author.Tests.{eq-eqb, eqb-true, eqb-false, le-leb}
 use Rattle.laws.specs.Change.{put}
-use Rattle.laws.specs.Keep.{count-has, count-keep, count-none, count-on, count-split, every-keep}
-use Rattle.laws.specs.Keep.{keep-from, keep-has, keep-keep, map-on, the-has}
+use Rattle.laws.specs.Keep.{count-has, count-keep, count-none, count-on, count-split, every-keep, keep-from, keep-has}
+use Rattle.laws.specs.Keep.{keep-keep, map-on, the-has}
 use Rattle.laws.specs.Search.{bit, length-keep, count, every, keep, means-every, run}
 use Rattle.laws.specs.Sort.{every-sort, length-sort, sort}
 use Rattle.laws.specs.Tests.{and-false, and-left, and-right, one-truth, or-assoc, or-false, or-true}
@@ -23,12 +23,11 @@ use Rattle.model.specs.Names.{aRequest, aSecurity, aTrade, named}
 use Rattle.model.specs.Rows.{found, hasKey, is, nothing, sameRow, there}
 use Rattle.model.specs.Sound.{sound}
 use Rattle.model.specs.SoundMeans.{SoundBook, means-s2, means-sound}
-use Rattle.tables.specs.Found.{found-again, own-number}
-use Rattle.tables.specs.Names.{by-id}
+use Rattle.facts.specs.Found.{found-again, own-number, found-has}
+use Rattle.facts.specs.Names.{by-id}
+use Rattle.facts.specs.Keys.{kind-of}
+use Rattle.facts.specs.Feed.{pends, pends-submits, pends-traded, submits-keep, traded-keeps}
 use Rattle.feed.specs.Hits.{due, hitBy, hits}
-use Rattle.feed.specs.Pending.{pends, pends-submits, pends-traded}
-use Rattle.shelf.specs.Put.{found-has}
-use Rattle.feed.specs.Steps.{kind-of, submits-keep, traded-keeps}
 
 -- ---- the requests of a book, none with the number of another, and d tells those that wait no longer
 abbrev Alone : List Row → Type 0

@@ -22,10 +22,11 @@ use Rattle.model.specs.Feed.{Fed, applied, feed, swept}
 use Rattle.model.specs.Names.{aSecurity}
 use Rattle.model.specs.Plan.{Outcome, accepted, limited, pick, refused, room}
 use Rattle.model.specs.Rows.{found, hasKey, nothing, rows, there, wholeRecords}
-use Rattle.shelf.specs.Rows.{length-rows, rowAt}
+use Rattle.facts.specs.Rows.{length-rows}
+use Rattle.facts.specs.Feed.{sharesFor, volumes-fit}
+use Rattle.shelf.specs.Rows.{rowAt}
 use Rattle.tables.specs.Table.{key-row}
 use Rattle.feed.specs.Hits.{due, hitBy, hits}
-use Rattle.feed.specs.Volumes.{sharesFor, volumes-fit}
 
 -- the volume of the entry's security stays in its range, with the shares of all entries on the symbol
 unfoldable pub volumeFits : List Row → List Row → Row → Bool

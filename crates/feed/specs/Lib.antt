@@ -2,9 +2,6 @@ pub mod Apply
 pub mod Due
 pub mod Hits
 pub mod Judge
-pub mod Pending
-pub mod Steps
 pub mod Submit
 pub mod Sweep
-pub mod Volumes
 pub mod Whole

@@ -10,7 +10,8 @@ use lib.Seq.{drop-set-lt, set-getD, take-all, take-suc-set}
 use Rattle.laws.specs.Walk.{left-next, left-none}
 use Rattle.record.specs.declared.row.Row.{Row}
 use Rattle.model.specs.Rows.{nothing, rows}
-use Rattle.shelf.specs.Rows.{length-rows, rowAt}
+use Rattle.facts.specs.Rows.{length-rows}
+use Rattle.shelf.specs.Rows.{rowAt}
 use Rattle.feed.specs.Hits.{due}
 
 -- what a feed with these entries leaves of a row

@@ -19,8 +19,9 @@ use Rattle.model.specs.Plan.{refused, room}
 use Rattle.model.specs.Rows.{is, mostRecords, recordSize, rows, wholeRecords}
 use Rattle.model.specs.Sound.{sound}
 use Rattle.model.specs.declared.Status.{Status}
+use Rattle.facts.specs.Rows.{length-rows}
+use Rattle.shelf.specs.Rows.{putAt}
 use Rattle.reply.specs.Left.{answerLeft, bookLeft, left-accepted, left-refused}
-use Rattle.shelf.specs.Rows.{length-rows, putAt}
 use Rattle.feed.specs.Due.{swept-due, trades-due}
 use Rattle.feed.specs.Hits.{due}
 use Rattle.feed.specs.Judge.{answered, feedStatus, judged-outcome, judged-refused, judged-status}

@@ -20,15 +20,15 @@ use Rattle.model.specs.Rows.{bytes, mostRecords, recordSize, rows, wholeRecords
 use Rattle.model.specs.Sound.{sound}
 use Rattle.model.specs.Unposted.{lookup-rows}
 use Rattle.model.specs.declared.Status.the-variants.{BadBook, BadInput, BadLength, Unsound}
-use Rattle.shelf.specs.Rows.{length-rows}
-use Rattle.tables.specs.Found.{sound-s1}
+use Rattle.facts.specs.Rows.{length-rows}
+use Rattle.facts.specs.Found.{sound-s1}
+use Rattle.facts.specs.Posted.{writes}
 use Rattle.kept.specs.Bytes.{length-bytes, puts-length, rows-bytes}
 use Rattle.kept.specs.FeedDone.{feed-length}
 use Rattle.kept.specs.FeedSound.{feed-sound}
 use Rattle.kept.specs.OrderSound.{order-length, order-sound}
 use Rattle.kept.specs.ResultBase.{accepted-all, postingOf, result-writes}
 use Rattle.kept.specs.ResultSound.{result-sound}
-use Rattle.kept.specs.Posted.{writes}
 
 -- a book: 1 to 4,096 whole records, and its rows are sound
 pub record SoundBytes (book : List ℕ) : Type 0 where

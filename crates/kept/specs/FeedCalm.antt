@@ -14,21 +14,22 @@ use Rattle.laws.specs.Keep.{count-map, count-on}
 use Rattle.laws.specs.Search.{count, sumZ, the, total}
 use Rattle.laws.specs.Tests.{and-left}
 use Rattle.laws.specs.Total.{total-map}
-use Rattle.record.specs.Codes.{kindFree, kindRequest, kindSecurity, kindTrade, kindTradeHistory, pending}
+use Rattle.laws.specs.Puts.{count-less}
+use Rattle.record.specs.Codes.{kindFree, kindRequest, kindSecurity, kindTrade, kindTradeHistory, pending, submitted}
 use Rattle.record.specs.Key.{among, keyOf, sameKey}
 use Rattle.record.specs.declared.key.Key.{Key}
 use Rattle.record.specs.declared.row.Row.{Row}
 use Rattle.rules.specs.Ranges.{volume}
 use Rattle.rules.specs.Rules.{feedInput}
-use Rattle.model.specs.Feed.{swept, traded, waits}
+use Rattle.model.specs.Feed.{swept, traded, waits, sent}
 use Rattle.model.specs.Rows.{found, hasKey, is, nothing, sameRow}
 use Rattle.model.specs.SoundMeans.{Each}
-use Rattle.shelf.specs.Put.{same-rows}
-use Rattle.feed.specs.Steps.{key-of}
+use Rattle.model.specs.History.{historyRow}
+use Rattle.facts.specs.Rows.{same-rows}
+use Rattle.facts.specs.Keys.{key-of}
 use Rattle.kept.specs.Cases.{by-cases, not-among}
 use Rattle.kept.specs.FeedLaws.{all-put, map-map-same, map-put, sum-map, the-map, the-put}
-use Rattle.kept.specs.FeedSteps.{Leads, historyFor, sent}
-use Rattle.laws.specs.Puts.{count-less}
+use Rattle.kept.specs.FeedSteps.{Leads}
 
 -- what the end of a feed makes of a row
 abbrev pub sweep : List Row → Row → Row
@@ -63,8 +64,8 @@ swept-fewer m p n =
 -- ---- what no step changes
 pub record Calm {X : Type 0} (f : Row → X) : Type 0 where
   pub security : (e s : Row) → s .kind ≡ kindSecurity → f (traded e s) ≡ f s
-  pub trade : (e t : Row) → t .kind ≡ kindTrade → t .status ≡ pending → f (sent e t) ≡ f t
-  pub history : (e : Row) (i : ℕ) → f (historyFor e i) ≡ f nothing
+  pub trade : (e t : Row) → t .kind ≡ kindTrade → t .status ≡ pending → f (sent (e .time) t) ≡ f t
+  pub history : (e : Row) (i : ℕ) → f (historyRow submitted i (e .time)) ≡ f nothing
   pub request : (r : Row) → r .kind ≡ kindRequest → f nothing ≡ f r
 
 -- what is found does not change either
@@ -72,14 +73,14 @@ pub record Finds {X : Type 0} (p : Row → Bool) (f : Row → X) : Type 0 where
   pub calm : Calm p
   pub none : p nothing ≡ false
   pub security : (e s : Row) → s .kind ≡ kindSecurity → p s ≡ true → f (traded e s) ≡ f s
-  pub trade : (e t : Row) → t .kind ≡ kindTrade → t .status ≡ pending → p t ≡ true → f (sent e t) ≡ f t
+  pub trade : (e t : Row) → t .kind ≡ kindTrade → t .status ≡ pending → p t ≡ true → f (sent (e .time) t) ≡ f t
 
 -- what each step passes on
 pub record Passes (P : Row → Type 0) : Type 0 where
   pub security : (e s : Row) → feedInput e ≡ true → s .kind ≡ kindSecurity → s .m1 + e .n2 ≤ volume .high → P s
       → P (traded e s)
-  pub trade : (e t : Row) → feedInput e ≡ true → t .kind ≡ kindTrade → t .status ≡ pending → P t → P (sent e t)
-  pub history : (e t : Row) → feedInput e ≡ true → t .kind ≡ kindTrade → P t → P (historyFor e (t .id))
+  pub trade : (e t : Row) → feedInput e ≡ true → t .kind ≡ kindTrade → t .status ≡ pending → P t → P (sent (e .time) t)
+  pub history : (e t : Row) → feedInput e ≡ true → t .kind ≡ kindTrade → P t → P (historyRow submitted (t .id) (e .time))
   pub free : P nothing
 
 module _ {rs m : List Row} (lead : Leads rs m) where
@@ -89,8 +90,8 @@ module _ {rs m : List Row} (lead : Leads rs m) where
       (record {
         trades = λ l e s t ih. map-put sameRow same-rows s (traded e s) f (c .security e s (t .kind)) l ∙ ih;
         sends = λ l e t q ih.
-            let h = historyFor e (t .id) in
-            map-put sameRow same-rows t (sent e t) f (c .trade e t (q .kind) (q .waits)) (put sameRow nothing h l)
+            let h = historyRow submitted (t .id) (e .time) in
+            map-put sameRow same-rows t (sent (e .time) t) f (c .trade e t (q .kind) (q .waits)) (put sameRow nothing h l)
             ∙ map-put sameRow same-rows nothing h f (c .history e (t .id)) l
             ∙ ih;
       })
@@ -126,8 +127,8 @@ module _ {rs m : List Row} (lead : Leads rs m) where
             (c .security e s (t .kind)) l
             ∙ ih;
         sends = λ l e t q ih.
-            let h = historyFor e (t .id) in
-            the-put sameRow same-rows t (sent e t) f p nothing (c .calm .trade e t (q .kind) (q .waits))
+            let h = historyRow submitted (t .id) (e .time) in
+            the-put sameRow same-rows t (sent (e .time) t) f p nothing (c .calm .trade e t (q .kind) (q .waits))
             (c .trade e t (q .kind) (q .waits)) (put sameRow nothing h l)
             ∙ the-put sameRow same-rows nothing h f p nothing (c .calm .history e (t .id))
             (λ y. absurd (false≢true (sym (c .none) ∙ y))) l
@@ -156,9 +157,9 @@ module _ {rs m : List Row} (lead : Leads rs m) where
             all-put sameRow same-rows s (traded e s) P
             (c .security e s (t .good) (t .kind) (t .volume) (ih s (t .here))) l ih;
         sends = λ l e t q ih.
-            let h = historyFor e (t .id) in
+            let h = historyRow submitted (t .id) (e .time) in
             let own = ih t (q .here) in
-            all-put sameRow same-rows t (sent e t) P (c .trade e t (q .good) (q .kind) (q .waits) own)
+            all-put sameRow same-rows t (sent (e .time) t) P (c .trade e t (q .good) (q .kind) (q .waits) own)
             (put sameRow nothing h l)
             (all-put sameRow same-rows nothing h P (c .history e t (q .good) (q .kind) own) l ih);
       })
@@ -185,8 +186,8 @@ module _ (k : ℕ) (off : among k touched ≡ false) where
       in
       record {
         security = λ e s h. at (traded e s) kindSecurity h refl ∙ sym (at s kindSecurity h refl);
-        trade = λ e t h w. at (sent e t) kindTrade h refl ∙ sym (at t kindTrade h refl);
-        history = λ e i. at (historyFor e i) kindTradeHistory refl refl ∙ sym (at nothing kindFree refl refl);
+        trade = λ e t h w. at (sent (e .time) t) kindTrade h refl ∙ sym (at t kindTrade h refl);
+        history = λ e i. at (historyRow submitted i (e .time)) kindTradeHistory refl refl ∙ sym (at nothing kindFree refl refl);
         request = λ r h. at nothing kindFree refl refl ∙ sym (at r kindRequest h refl);
       }
 
@@ -209,10 +210,10 @@ traded-key e s h k =
     let q : keyOf (traded e s) ≡ keyOf s = rw h in
     ap (λ (x : Key). sameKey x k) q
 
-pub sent-key : (e t : Row) → t .kind ≡ kindTrade → (k : Key) → hasKey k (sent e t) ≡ hasKey k t
+pub sent-key : (e t : Row) → t .kind ≡ kindTrade → (k : Key) → hasKey k (sent (e .time) t) ≡ hasKey k t
 unfolding hasKey keyOf
 sent-key e t h k =
-    let q : keyOf (sent e t) ≡ keyOf t = rw h in
+    let q : keyOf (sent (e .time) t) ≡ keyOf t = rw h in
     ap (λ (x : Key). sameKey x k) q
 
 -- of rows that neither come nor go
@@ -227,6 +228,6 @@ calm-key k off =
     record {
       security = λ e s h. traded-key e s h k;
       trade = λ e t h w. sent-key e t h k;
-      history = λ e i. at (historyFor e i) kindTradeHistory refl refl ∙ sym (at nothing kindFree refl refl);
+      history = λ e i. at (historyRow submitted i (e .time)) kindTradeHistory refl refl ∙ sym (at nothing kindFree refl refl);
       request = λ r h. at nothing kindFree refl refl ∙ sym (at r kindRequest h refl);
     }

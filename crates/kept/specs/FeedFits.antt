@@ -14,11 +14,12 @@ use Rattle.rules.specs.Meaning.{means-free, means-security, means-trade, means-
 use Rattle.rules.specs.Ranges.{_⋯_, id, kind, m1, n1, price, status, time, tradeNumber, tradeStatus, values, volume}
 use Rattle.rules.specs.Ranges.{when}
 use Rattle.rules.specs.Rules.{as-kind, feedInput, rules, securityLimits, tradeLimits}
-use Rattle.model.specs.Feed.{swept, traded}
+use Rattle.model.specs.Feed.{swept, traded, sent}
 use Rattle.model.specs.Rows.{nothing}
 use Rattle.model.specs.SoundMeans.{S1, SoundBook}
+use Rattle.model.specs.History.{historyRow}
 use Rattle.kept.specs.FeedCalm.{passes-all}
-use Rattle.kept.specs.FeedSteps.{Leads, historyFor, sent}
+use Rattle.kept.specs.FeedSteps.{Leads}
 use Rattle.kept.specs.ResultFits.{fits-as}
 use Rattle.kept.specs.ResultFitsRanges.{Field, all-put, field, new-put}
 
@@ -48,7 +49,7 @@ module _ (e : Row) (input : feedInput e ≡ true) where
     fit .1,
   )
 
-  sent-fits : (t : Row) → t .status ≡ pending → Trade t → Trade (sent e t)
+  sent-fits : (t : Row) → t .status ≡ pending → Trade t → Trade (sent (e .time) t)
   sent-fits t w fit = (
     (
       (
@@ -61,7 +62,7 @@ module _ (e : Row) (input : feedInput e ≡ true) where
     fit .1,
   )
 
-  history-fits : (t : Row) → Trade t → TradeHistory (historyFor e (t .id))
+  history-fits : (t : Row) → Trade t → TradeHistory (historyRow submitted (t .id) (e .time))
   history-fits t fit =
       new-put (
       field kind kindTradeHistory (kindTradeHistory ⋯ kindTradeHistory) (omega arith) (omega arith)
@@ -78,9 +79,9 @@ s1-feed book lead =
           fits-as kindSecurity (traded e s) h (means-security (traded e s) .holds (security-fits e g s v fit));
       trade = λ e t g h w p.
           let fit = means-trade t .shows (rule-of kindTrade t h p) in
-          fits-as kindTrade (sent e t) h (means-trade (sent e t) .holds (sent-fits e g t w fit));
+          fits-as kindTrade (sent (e .time) t) h (means-trade (sent (e .time) t) .holds (sent-fits e g t w fit));
       history = λ e t g h p.
-          let x = historyFor e (t .id) in
+          let x = historyRow submitted (t .id) (e .time) in
           let fit = means-trade t .shows (rule-of kindTrade t h p) in
           fits-as kindTradeHistory x refl (means-trade-history x .holds (history-fits e g t fit));
       free = fits-as kindFree nothing refl (means-free nothing .holds (new-put []));

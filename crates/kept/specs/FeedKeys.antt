@@ -3,7 +3,7 @@
 use mathlib.Core.Path.{_≡_, refl, sym, ap, subst, _∙_}
 use mathlib.Core.Bool.{Bool, true, false}
 use mathlib.Core.List.{List, List·Memᴰ}
-use mathlib.Core.Logic.{_⊎_, inl, inr, ⊎-elim}
+use mathlib.Core.Logic.{inl, inr, ⊎-elim}
 use Prim.Native.Nat.{ℕ, _+_, _≤_}
 use native.Mathlib.Omega.{arith}
 use lib.Dec.{eqb, ltb}
@@ -13,27 +13,27 @@ use Rattle.laws.specs.Change.{count-alike, put}
 use Rattle.laws.specs.Keep.{count-has, count-one}
 use Rattle.laws.specs.Search.{bit, count}
 use Rattle.laws.specs.Tests.{and-both, and-false, and-left, and-right}
+use Rattle.laws.specs.Puts.{count-less, is-counted, put-total}
 use Rattle.record.specs.Codes.{kindFree, kindRequest, kindTrade, kindTradeHistory, submitted}
 use Rattle.record.specs.Key.{keyOf}
 use Rattle.record.specs.KeyLaws.{same-keys}
 use Rattle.record.specs.declared.key.Key.{Key}
 use Rattle.record.specs.declared.row.Row.{Row}
-use Rattle.model.specs.Feed.{swept, traded}
+use Rattle.model.specs.Feed.{swept, traded, sent}
 use Rattle.model.specs.Names.{aHistory, aTrade}
 use Rattle.model.specs.Rows.{hasKey, is, nothing, sameRow}
 use Rattle.model.specs.Sound.{higher}
 use Rattle.model.specs.SoundMeans.{S2, S7, SoundBook, There}
-use Rattle.shelf.specs.Put.{row-itself, same-rows}
-use Rattle.tables.specs.Found.{own-number}
-use Rattle.tables.specs.Names.{ofId}
-use Rattle.feed.specs.Steps.{key-of}
-use Rattle.result.specs.Apart.{own-key}
+use Rattle.model.specs.History.{historyRow}
+use Rattle.facts.specs.Rows.{row-itself, same-rows}
+use Rattle.facts.specs.Found.{own-number}
+use Rattle.facts.specs.Names.{ofId}
+use Rattle.facts.specs.Keys.{key-of, own-key}
 use Rattle.kept.specs.Cases.{by-cases}
 use Rattle.kept.specs.FeedCalm.{sent-key, sweep, sweep-either, swept-fewer, swept-same, traded-key}
 use Rattle.kept.specs.FeedLaws.{all-put, put-has}
-use Rattle.kept.specs.FeedSteps.{Keeps, Leads, Sends, Trades, afterSend, afterTrade, historyFor, sent}
+use Rattle.kept.specs.FeedSteps.{Keeps, Leads, Sends, Trades, afterSend, afterTrade}
 use Rattle.kept.specs.ResultFresh.{not-yet, one-key}
-use Rattle.laws.specs.Puts.{count-less, is-counted, put-total}
 
 -- no key is there twice
 abbrev Keys : List Row → Type 0
@@ -77,23 +77,23 @@ module _ (l : List Row) (e s : Row) (q : Trades l e s) where
 -- ---- a trade is submitted
 module _ (l : List Row) (e t : Row) (q : Sends l e t) (u : Keys l) (s7 : S7 l) where
   abbrev added : Row
-  added = historyFor e (t .id)
+  added = historyRow submitted (t .id) (e .time)
 
   abbrev between : List Row
   between = put sameRow nothing added l
 
-  send-count : (p : Row → Bool) → p (sent e t) ≡ p t → p nothing ≡ false
+  send-count : (p : Row → Bool) → p (sent (e .time) t) ≡ p t → p nothing ≡ false
       → count p (afterSend l e t) ≡ count p l + bit (p added)
   unfolding count
   send-count p a n =
-      let one = count-alike sameRow same-rows p t (sent e t) a between in
+      let one = count-alike sameRow same-rows p t (sent (e .time) t) a between in
       let two = put-total sameRow same-rows row-itself (λ (x : Row). bit (p x)) nothing added l (q .space) in
       let z = ap bit n in
       omega arith
 
   -- neither the trade nor what it becomes is a history row
-  both-not : (x : Row) → higher x (sent e t) ≡ higher x t
-  both-not x = not-higher x (sent e t) kindTrade (q .kind) refl ∙ sym (not-higher x t kindTrade (q .kind) refl)
+  both-not : (x : Row) → higher x (sent (e .time) t) ≡ higher x t
+  both-not x = not-higher x (sent (e .time) t) kindTrade (q .kind) refl ∙ sym (not-higher x t kindTrade (q .kind) refl)
 
   fresh : count (hasKey (aHistory (t .id) submitted)) l ≡ 0
   fresh = not-yet l t submitted (ap (λ (n : ℕ). ltb n submitted) (q .waits)) (s7 t (q .here) (q .kind) .1)
@@ -118,25 +118,25 @@ module _ (l : List Row) (e t : Row) (q : Sends l e t) (u : Keys l) (s7 : S7 l) w
           let law = all in
           omega arith
 
-  sent-here : List·Memᴰ (sent e t) (afterSend l e t)
+  sent-here : List·Memᴰ (sent (e .time) t) (afterSend l e t)
   unfolding sameRow count
   sent-here =
       let was = is-counted sameRow same-rows row-itself t l (q .here) in
       let off : sameRow t nothing ≡ false = rw (q .kind) in
       let two = put-total sameRow same-rows row-itself (λ (x : Row). bit (sameRow t x)) nothing added l (q .space) in
       let z = ap bit off in
-      put-has sameRow same-rows t (sent e t) between (omega arith)
+      put-has sameRow same-rows t (sent (e .time) t) between (omega arith)
 
   -- the trade itself
-  sent-right : HistoryRight (afterSend l e t) (sent e t)
+  sent-right : HistoryRight (afterSend l e t) (sent (e .time) t)
   unfolding keyOf
   sent-right =
       let k = aHistory (t .id) submitted in
       let own : hasKey k added ≡ true = own-key added in
       let a = send-count (hasKey k) (sent-key e t (q .kind) k) (no-key k (λ z. omega arith)) in
       let z = ap bit own in
-      let p = higher (sent e t) in
-      let b = send-count p (both-not (sent e t)) refl in
+      let p = higher (sent (e .time) t) in
+      let b = send-count p (both-not (sent (e .time) t)) refl in
       let y = ap bit (and-false (eqb (t .id) (t .id))) in
       let none = s7 t (q .here) (q .kind) .1 in
       let less =
@@ -166,7 +166,7 @@ module _ (l : List Row) (e t : Row) (q : Sends l e t) (u : Keys l) (s7 : S7 l) w
   was-there : All (λ (x : Row). x .kind ≡ kindTrade → eqb (t .id) (x .id) ≡ false → List·Memᴰ x l) (afterSend l e t)
   was-there =
       let P : Row → Type 0 = λ x. x .kind ≡ kindTrade → eqb (t .id) (x .id) ≡ false → List·Memᴰ x l in
-      all-put sameRow same-rows t (sent e t) P
+      all-put sameRow same-rows t (sent (e .time) t) P
       (λ k n. absurd (eqb-false (t .id) (t .id) n refl)) between
       (all-put sameRow same-rows nothing added P (λ k n. absurd (omega arith)) l (λ x i k n. i))
 
@@ -175,12 +175,12 @@ module _ (l : List Row) (e t : Row) (q : Sends l e t) (u : Keys l) (s7 : S7 l) w
       by-cases (eqb (t .id) (x .id))
       (λ y.
       let key = aTrade (t .id) in
-      let mine = own-number kindTrade refl (t .id) (sent e t) (eq-eqb (t .kind) kindTrade (q .kind)) refl in
+      let mine = own-number kindTrade refl (t .id) (sent (e .time) t) (eq-eqb (t .kind) kindTrade (q .kind)) refl in
       let its =
       own-number kindTrade refl (t .id) x (eq-eqb (x .kind) kindTrade k) (sym (eqb-true (t .id) (x .id) y))
       in
       subst (HistoryRight (afterSend l e t))
-      (count-one (hasKey key) (sent e t) x (afterSend l e t) (send-keys key (λ z. omega arith)) sent-here i mine
+      (count-one (hasKey key) (sent (e .time) t) x (afterSend l e t) (send-keys key (λ z. omega arith)) sent-here i mine
       its)
       sent-right)
       (λ y. other-right x (was-there x i k y) k y)

@@ -12,22 +12,22 @@ use Rattle.laws.specs.All.{All, all-map}
 use Rattle.laws.specs.Change.{count-alike, put}
 use Rattle.laws.specs.Keep.{count-map, count-on}
 use Rattle.laws.specs.Search.{count}
-use Rattle.record.specs.Codes.{kindRequest, kindTrade, pending}
+use Rattle.laws.specs.Puts.{count-no, the-one}
+use Rattle.record.specs.Codes.{kindRequest, kindTrade, pending, submitted}
 use Rattle.record.specs.declared.row.Row.{Row}
-use Rattle.model.specs.Feed.{swept, traded, waits}
+use Rattle.model.specs.Feed.{swept, traded, waits, sent}
 use Rattle.model.specs.Names.{aRequest, aTrade, anAccount}
 use Rattle.model.specs.Rows.{found, hasKey, is, nothing, sameRow}
 use Rattle.model.specs.SoundMeans.{S6, SoundBook}
-use Rattle.shelf.specs.Put.{same-rows}
-use Rattle.tables.specs.Found.{own-number}
-use Rattle.feed.specs.Steps.{OfKind, key-of}
-use Rattle.result.specs.Apart.{key-kind}
+use Rattle.model.specs.History.{historyRow}
+use Rattle.facts.specs.Rows.{same-rows}
+use Rattle.facts.specs.Found.{own-number}
+use Rattle.facts.specs.Keys.{OfKind, key-of, key-kind}
 use Rattle.kept.specs.Looks.{agrees-not, agrees-of, agreesBy}
 use Rattle.kept.specs.FeedCalm.{passes-steps, sweep, sweep-either}
 use Rattle.kept.specs.FeedKeys.{fed-keys}
 use Rattle.kept.specs.FeedRest.{same-found}
-use Rattle.kept.specs.FeedSteps.{Leads, historyFor, sent}
-use Rattle.laws.specs.Puts.{count-no, the-one}
+use Rattle.kept.specs.FeedSteps.{Leads}
 use Rattle.kept.specs.ResultTrades.{number-is}
 
 module _ {rs m : List Row} (book : SoundBook rs) (lead : Leads rs m) where
@@ -61,8 +61,8 @@ module _ {rs m : List Row} (book : SoundBook rs) (lead : Leads rs m) where
             count-alike sameRow same-rows p s (traded e s) (of (traded e s) off ∙ sym (of s off)) l ∙ ih;
         sends = λ l e t q ih.
             let off : t .kind ≡ kindRequest → ⊥ = λ y. let z = sym (q .kind) ∙ y in omega arith in
-            let h = historyFor e (t .id) in
-            count-alike sameRow same-rows p t (sent e t) (of (sent e t) off ∙ sym (of t off)) (put sameRow nothing h l)
+            let h = historyRow submitted (t .id) (e .time) in
+            count-alike sameRow same-rows p t (sent (e .time) t) (of (sent (e .time) t) off ∙ sym (of t off)) (put sameRow nothing h l)
             ∙ count-alike sameRow same-rows p nothing h
             (of h (λ y. omega arith) ∙ sym (of nothing (λ y. omega arith))) l
             ∙ ih;

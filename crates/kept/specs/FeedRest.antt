@@ -16,18 +16,18 @@ use Rattle.record.specs.Codes.{kindLotHistory, kindSecurity, kindSettlement, ki
 use Rattle.record.specs.Key.{among}
 use Rattle.record.specs.declared.key.Key.{Key}
 use Rattle.record.specs.declared.row.Row.{Row}
-use Rattle.model.specs.Feed.{swept, traded}
+use Rattle.model.specs.Feed.{swept, traded, sent}
 use Rattle.model.specs.Flags.{cash}
 use Rattle.model.specs.Names.{aCash, aSettlement, aSummary, aTaxRate, aTrade, named}
 use Rattle.model.specs.Rows.{found, hasKey, nothing}
 use Rattle.model.specs.Sound.{lotOf, otherSign, overlaps, sharesOf}
 use Rattle.model.specs.SoundMeans.{Each, LotRight, S10, S3, S4, S5, S8, S9, SoundBook, SummaryRight, There}
-use Rattle.tables.specs.Found.{own-number}
-use Rattle.feed.specs.Steps.{key-of}
-use Rattle.result.specs.Apart.{names-account}
+use Rattle.facts.specs.Found.{own-number}
+use Rattle.facts.specs.Keys.{key-of}
+use Rattle.facts.specs.Sound.{names-account}
 use Rattle.kept.specs.FeedCalm.{calm-count, calm-key, calm-kind, calm-sum, calm-total, each-stays, finds-same}
 use Rattle.kept.specs.FeedCalm.{moving, passes-all, touched}
-use Rattle.kept.specs.FeedSteps.{Leads, sent}
+use Rattle.kept.specs.FeedSteps.{Leads}
 use Rattle.kept.specs.ResultNames.{named-off}
 use Rattle.kept.specs.Cases.{not-among}
 use Rattle.kept.specs.Looks.{rates-alike}
@@ -57,7 +57,7 @@ module _ {rs m : List Row} (book : SoundBook rs) (lead : Leads rs m) where
       })
 
   same-trade : {X : Type 0} (i : ℕ) (f : Row → X) → ((e s : Row) → f (traded e s) ≡ f s)
-      → ((e t : Row) → t .status ≡ pending → f (sent e t) ≡ f t)
+      → ((e t : Row) → t .status ≡ pending → f (sent (e .time) t) ≡ f t)
       → f (found (aTrade i) (swept m)) ≡ f (found (aTrade i) rs)
   same-trade i f a b =
       finds-same lead (aTrade i) f
@@ -109,7 +109,7 @@ module _ {rs m : List Row} (book : SoundBook rs) (lead : Leads rs m) where
               λ z. let y = sym h ∙ z in absurd (omega arith),
             );
             trade = λ e t g h w p. (
-              subst (All N) (names-account t h ∙ sym (names-account (sent e t) h)) (p .0),
+              subst (All N) (names-account t h ∙ sym (names-account (sent (e .time) t) h)) (p .0),
               λ z. p .1 h,
             );
             history = λ e t g h p. (all-one N (aTrade (t .id)) (p .1 h), λ z. absurd (omega arith));

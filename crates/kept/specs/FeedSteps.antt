@@ -15,30 +15,22 @@ use Rattle.laws.specs.Keep.{count-has, count-keep, count-kept, every-alike, kee
 use Rattle.laws.specs.Search.{bit, count, every, keep, run, total}
 use Rattle.laws.specs.Sort.{count-sort, of-sort}
 use Rattle.laws.specs.Tests.{and-left, and-right}
-use Rattle.record.specs.Codes.{kindRequest, kindSecurity, kindTrade, kindTradeHistory, pending, submitted}
+use Rattle.laws.specs.Puts.{count-less, put-total}
+use Rattle.record.specs.Codes.{kindRequest, kindSecurity, kindTrade, pending, submitted}
 use Rattle.record.specs.declared.row.Row.{Row}
-use Rattle.rules.specs.Ranges.{id, kind, status, volume, when}
 use Rattle.rules.specs.Rules.{feedInput}
-use Rattle.model.specs.Edit.{_≔_, changed, new}
-use Rattle.model.specs.Feed.{Fed, applied, lower, reached, submit, submits, traded, triggered, volumesFit, waits}
+use Rattle.rules.specs.Ranges.{volume}
+use Rattle.model.specs.Feed.{Fed, applied, lower, reached, sent, submit, submits, traded, triggered, volumesFit}
+use Rattle.model.specs.Feed.{waits}
 use Rattle.model.specs.Names.{aRequest, aSecurity, aTrade}
 use Rattle.model.specs.Rows.{found, hasKey, is, nothing, sameRow, there}
-use Rattle.shelf.specs.Put.{found-has, found-none, row-itself, same-rows}
-use Rattle.tables.specs.Found.{own-number}
-use Rattle.feed.specs.Pending.{pends, pends-submits}
-use Rattle.feed.specs.Steps.{key-of, submits-keep, traded-keeps}
-use Rattle.feed.specs.Volumes.{there-next, volume-after, volume-next}
-use Rattle.result.specs.Apart.{found-kind}
-use Rattle.laws.specs.Puts.{count-less, put-total}
+use Rattle.model.specs.History.{historyRow}
+use Rattle.facts.specs.Found.{found-has, found-kind, found-none, own-number}
+use Rattle.facts.specs.Rows.{row-itself, same-rows}
+use Rattle.facts.specs.Keys.{key-of}
+use Rattle.facts.specs.Feed.{pends, pends-submits, submits-keep, there-next, traded-keeps, volume-after, volume-next}
 use Rattle.kept.specs.Cases.{by-cases, not-so}
 use Rattle.kept.specs.ResultTrades.{number-is}
-
--- the history row of a trade that an entry submits, and the trade then
-abbrev pub historyFor : Row → ℕ → Row
-historyFor e i = new (kind ≔ kindTradeHistory ∷ status ≔ submitted ∷ id ≔ i ∷ when ≔ e .time ∷ [])
-
-abbrev pub sent : Row → Row → Row
-sent e t = changed t (status ≔ submitted ∷ when ≔ e .time ∷ [])
 
 -- an entry changes this security
 pub record Trades (m : List Row) (e s : Row) : Type 0 where
@@ -59,7 +51,7 @@ abbrev pub afterTrade : List Row → Row → Row → List Row
 afterTrade m e s = put sameRow s (traded e s) m
 
 abbrev pub afterSend : List Row → Row → Row → List Row
-afterSend m e t = put sameRow t (sent e t) (put sameRow nothing (historyFor e (t .id)) m)
+afterSend m e t = put sameRow t (sent (e .time) t) (put sameRow nothing (historyRow submitted (t .id) (e .time)) m)
 
 -- what each step keeps
 pub record Keeps (I : List Row → Type 0) : Type 0 where
@@ -111,10 +103,10 @@ module _ (e : Row) (rs : List Row) (r : Row) (p : pends rs (r .id) ≡ true) whe
   free-next : 1 ≤ free rs → free (submit e rs r) + 1 ≡ free rs
   unfolding sameRow count
   free-next s =
-      let h = historyFor e (r .id) in
+      let h = historyRow submitted (r .id) (e .time) in
       let first = put-total sameRow same-rows row-itself (λ (x : Row). bit (sameRow nothing x)) nothing h rs s in
-      let alike : sameRow nothing (sent e its) ≡ sameRow nothing its = rw its-kind in
-      let second = count-alike sameRow same-rows (sameRow nothing) its (sent e its) alike (put sameRow nothing h rs) in
+      let alike : sameRow nothing (sent (e .time) its) ≡ sameRow nothing its = rw its-kind in
+      let second = count-alike sameRow same-rows (sameRow nothing) its (sent (e .time) its) alike (put sameRow nothing h rs) in
       omega arith
 
 pends-next : (e : Row) (rs : List Row) (r : Row) (i : ℕ) → pends rs i ≡ true → eqb (r .id) i ≡ false
@@ -157,7 +149,7 @@ module _ (I : List Row → Type 0) (k : Keeps I) where
       submits-lead e g (submit e rs r) ts
       (λ t m. pends-next e rs r (t .id) (ps t (List·Memᴰ·tail m)) (apart-head r ts a t m)) (apart-tail r ts a)
       (omega arith)
-      (subst (λ (j : ℕ). I (put sameRow its (sent e its) (put sameRow nothing (historyFor e j) rs)))
+      (subst (λ (j : ℕ). I (put sameRow its (sent (e .time) its) (put sameRow nothing (historyRow submitted j (e .time)) rs)))
       (its-number e rs r p) step)
       in
       (rest .0, omega arith)

@@ -1,6 +1,5 @@
 pub mod Cases
 pub mod Looks
-pub mod Posted
 pub mod Bytes
 pub mod FeedSteps
 pub mod FeedLaws

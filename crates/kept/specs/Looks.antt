@@ -12,7 +12,7 @@ use Rattle.record.specs.declared.row.Row.{Row}
 use Rattle.model.specs.Names.{aRequest, aTaxRate}
 use Rattle.model.specs.Rows.{found, hasKey, is}
 use Rattle.model.specs.Sound.{ratesOf}
-use Rattle.feed.specs.Steps.{OfKind, key-of}
+use Rattle.facts.specs.Keys.{OfKind, key-of}
 
 -- a request that agrees with a trade of an account with this broker
 abbrev pub agreesBy : ℕ → Row → Row → Bool

@@ -11,15 +11,15 @@ use Rattle.laws.specs.All.{All, all-map}
 use Rattle.laws.specs.Change.{put, puts}
 use Rattle.laws.specs.Keep.{count-map, count-none}
 use Rattle.laws.specs.Search.{count, sumZ, the, total}
+use Rattle.laws.specs.Puts.{Inside, Quiet, count-length, count-no, each-row, has-come, mem-map, news, olds}
+use Rattle.laws.specs.Puts.{puts-count, puts-total, the-puts}
+use Rattle.laws.specs.Total.{total-map, total-zero}
 use Rattle.record.specs.declared.row.Row.{Row}
 use Rattle.model.specs.Rows.{nothing, sameRow}
-use Rattle.shelf.specs.Put.{row-itself, same-rows}
+use Rattle.facts.specs.Rows.{row-itself, same-rows}
+use Rattle.facts.specs.Posted.{adds}
 use Rattle.kept.specs.FeedLaws.{map-put, sum-map}
 use Rattle.kept.specs.Cases.{by-cases}
-use Rattle.kept.specs.Posted.{adds}
-use Rattle.laws.specs.Puts.{Inside, Quiet, count-length, count-no, each-row, has-come, mem-map, news, olds, puts-count}
-use Rattle.laws.specs.Puts.{puts-total, the-puts}
-use Rattle.laws.specs.Total.{total-map, total-zero}
 
 -- the rows with others added
 abbrev pub grown : List Row → List Row → List Row

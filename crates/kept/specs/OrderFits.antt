@@ -9,15 +9,15 @@ use lib.Dec.{leb}
 use Rattle.record.specs.Codes.{kindAccount, kindRequest, kindTrade, kindTradeHistory, pending, submitted, tms}
 use Rattle.record.specs.declared.row.Row.{Row}
 use Rattle.rules.specs.Meaning.{Fits, OrderInput, means-account, means-fits, means-order-input}
-use Rattle.rules.specs.Ranges.{_⋯_, any64, charged, fee, flags, form, id, m1, m2, n1, n2, n3, n4, number, party, price}
-use Rattle.rules.specs.Ranges.{priceMost, shares, status, symbol, time, tradeFlags, tradeNumber, tradeStatus}
+use Rattle.rules.specs.Ranges.{_⋯_, any64, charged, fee, flags, form, id, m1, m2, n1, n2, n3, n4, number, party}
+use Rattle.rules.specs.Ranges.{price, priceMost, shares, status, symbol, time, tradeFlags, tradeNumber, tradeStatus}
 use Rattle.rules.specs.Ranges.{tradeType, when}
 use Rattle.rules.specs.Rules.{as-kind}
 use Rattle.model.specs.Names.{anAccount}
 use Rattle.model.specs.Order.{firstStatus}
 use Rattle.model.specs.Rows.{found}
 use Rattle.model.specs.SoundMeans.{S1}
-use Rattle.result.specs.Apart.{found-kind, found-member}
+use Rattle.facts.specs.Found.{found-kind, found-member}
 use Rattle.kept.specs.OrderAdds.{grown-each}
 use Rattle.kept.specs.OrderFresh.{Taken, added, book, each-added, history, request, trade}
 use Rattle.kept.specs.OrderNames.{left, there-test}

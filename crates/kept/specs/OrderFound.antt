@@ -18,7 +18,7 @@ use Rattle.model.specs.Names.{aCash, aSettlement, aSummary, aTrade}
 use Rattle.model.specs.Rows.{found, hasKey, nothing}
 use Rattle.model.specs.Sound.{lotOf, otherSign, sharesOf}
 use Rattle.model.specs.SoundMeans.{LotRight, S10, S8, S9, SummaryRight}
-use Rattle.feed.specs.Steps.{key-of}
+use Rattle.facts.specs.Keys.{key-of}
 use Rattle.kept.specs.OrderAdds.{grown-each, grown-sum, still-the}
 use Rattle.kept.specs.OrderFresh.{Taken, added, book, each-added, none-numbered}
 use Rattle.kept.specs.OrderNames.{left, of-off, off-count, off-found, off-key, stays}

@@ -14,6 +14,7 @@ use Rattle.laws.specs.Keep.{the-has}
 use Rattle.laws.specs.Place.{the-passes}
 use Rattle.laws.specs.Search.{bit, count, largest, the, total}
 use Rattle.laws.specs.Tests.{or-cases}
+use Rattle.laws.specs.Puts.{count-no}
 use Rattle.record.specs.Codes.{kindCash, kindLot, kindLotHistory, kindRequest, kindSettlement, kindTrade}
 use Rattle.record.specs.Codes.{kindTradeHistory, tms}
 use Rattle.record.specs.Key.{among, byId, keyOf}
@@ -23,14 +24,13 @@ use Rattle.record.specs.declared.row.Row.{Row}
 use Rattle.rules.specs.Ranges.{charged, fee, priceMost, tradeNumber}
 use Rattle.rules.specs.Rules.{orderInput}
 use Rattle.model.specs.Names.{aSecurity, aTrade, anAccount, named}
-use Rattle.model.specs.Order.{tradeId}
+use Rattle.model.specs.Order.{tradeId, addedRows, requestRow, tradeRow, firstStatus}
 use Rattle.model.specs.Rows.{found, hasKey, nothing, sameRow}
 use Rattle.model.specs.Sound.{sound}
 use Rattle.model.specs.SoundMeans.{SoundBook, There, means-sound}
-use Rattle.tables.specs.Names.{of-five}
-use Rattle.result.specs.Apart.{key-kind}
-use Rattle.order.specs.Post.{addedRows, historyRow, requestRow, tradeRow}
-use Rattle.laws.specs.Puts.{count-no}
+use Rattle.model.specs.History.{historyRow}
+use Rattle.facts.specs.Names.{of-five}
+use Rattle.facts.specs.Keys.{key-kind}
 use Rattle.kept.specs.Cases.{not-so}
 use Rattle.kept.specs.ResultTrades.{number-is}
 
@@ -74,7 +74,7 @@ module _ {rs : List Row} {input : Row} {broker number price charge commission : 
   trade = tradeRow input number price charge commission
 
   abbrev pub history : Row
-  history = historyRow input number
+  history = historyRow (firstStatus input) number (input .time)
 
   abbrev pub request : Row
   request = requestRow input broker number price

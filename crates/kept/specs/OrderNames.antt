@@ -20,10 +20,10 @@ use Rattle.model.specs.Names.{aBroker, aSecurity, aTaxRate, aTrade, anAccount, 
 use Rattle.model.specs.Rows.{found, hasKey, is, nothing, there}
 use Rattle.model.specs.Sound.{overlaps}
 use Rattle.model.specs.SoundMeans.{S2, S3, S4, S5, There}
-use Rattle.tables.specs.Found.{own-number}
-use Rattle.tables.specs.Names.{other-kind}
-use Rattle.result.specs.Apart.{found-kind, found-member, names-broker, own-key}
-use Rattle.feed.specs.Steps.{OfKind, key-of, kind-of}
+use Rattle.facts.specs.Found.{own-number, found-kind, found-member}
+use Rattle.facts.specs.Names.{other-kind}
+use Rattle.facts.specs.Sound.{names-broker}
+use Rattle.facts.specs.Keys.{own-key, OfKind, key-of, kind-of}
 use Rattle.kept.specs.ResultEach.{lotKinds}
 use Rattle.kept.specs.Cases.{by-cases, no, not-among, not-so}
 use Rattle.kept.specs.Looks.{rates-alike}

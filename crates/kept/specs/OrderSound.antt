@@ -1,13 +1,13 @@
 -- An accepted order leaves a sound book: S1 to S10 together. Assumes nothing.
-use mathlib.Core.Path.{_≡_, refl, sym, ap, _∙_}
+use mathlib.Core.Path.{_≡_, refl, ap, _∙_}
 use mathlib.Core.Bool.{Bool, true, false, cond, false≢true}
 use mathlib.Core.List.{List}
 use Prim.Native.Nat.{ℕ, _≤_}
 use native.Mathlib.Omega.{arith}
-use lib.Dec.{eqb, leb}
+use lib.Dec.{leb}
 use lib.ListN.{length}
 use borrow.Author.Tests.{leb-false, leb-true}
-use Rattle.laws.specs.Change.{fill}
+use Rattle.laws.specs.Change.{fill, puts, written}
 use Rattle.laws.specs.Search.{count}
 use Rattle.record.specs.Codes.{kindCharge, kindFree, kindSecurity, tms}
 use Rattle.record.specs.declared.key.Key.{Key}
@@ -19,40 +19,40 @@ use Rattle.model.specs.Call.{isDone}
 use Rattle.model.specs.Flags.{rollBack}
 use Rattle.model.specs.Money.{commissionOf, untaxed}
 use Rattle.model.specs.Names.{aCharge, aCustomer, aSecurity, anAccount}
-use Rattle.model.specs.Order.{View, atMarket, nextNumber, order, priceUsed, view, walked}
-use Rattle.model.specs.Plan.{Outcome, room}
+use Rattle.model.specs.Order.{View, addedRows, atMarket, finish, nextNumber, order, plan, posting, priceUsed, view}
+use Rattle.model.specs.Order.{walked}
+use Rattle.model.specs.Plan.{checked, finished, limited, posted, room}
 use Rattle.model.specs.Rows.{found, hasKey, is, nothing, sameRow, there}
 use Rattle.model.specs.Sound.{sound}
 use Rattle.model.specs.SoundMeans.{There, means-sound}
-use Rattle.tables.specs.Found.{sound-s1, the-most}
-use Rattle.lots.specs.Money.{commission-taken}
-use Rattle.lots.specs.Terms.{rate-most}
-use Rattle.order.specs.Bounds.{price-most}
-use Rattle.order.specs.Estimate.{estimated, termsOf}
-use Rattle.order.specs.Judge.{how-many, judged, judged-outcome, judged-status, orderStatus, rowsAdded}
-use Rattle.order.specs.Post.{addedRows, rowsAfter}
-use Rattle.result.specs.Apart.{found-kind, found-live, found-member, key-kind}
+use Rattle.facts.specs.Found.{found-kind, found-live, found-member, sound-s1, the-most}
+use Rattle.facts.specs.Money.{commission-taken}
+use Rattle.facts.specs.Most.{price-most, rate-most}
+use Rattle.facts.specs.Keys.{key-kind}
+use Rattle.facts.specs.Posted.{adds, fill-puts}
 use Rattle.kept.specs.Bytes.{puts-length}
 use Rattle.kept.specs.OrderFits.{fits-left}
 use Rattle.kept.specs.OrderFound.{done-left, lots-left, settlements-left}
 use Rattle.kept.specs.OrderFresh.{Taken}
 use Rattle.kept.specs.OrderNames.{bands-left, keys-left, left, names-left, rates-left}
 use Rattle.kept.specs.OrderTrades.{histories-left, requests-left}
-use Rattle.kept.specs.Posted.{adds, fill-puts}
 use Rattle.kept.specs.ResultBase.{room-is}
 
--- what an order that is done has passed
+-- what an order that is done has passed, and the rows that it leaves
 record Passed (rs : List Row) (input : Row) : Type 0 where
   account : is kindFree (view rs input .account) ≡ false
   security : is kindFree (view rs input .security) ≡ false
   number : view rs input .number ≤ tradeNumber .high
-  space : rowsAdded input ≤ room rs
+  space : length (posting input (view rs input) .added) ≤ room rs
+  rows : order rs input .rows
+      ≡ cond (rollBack (input .flags)) rs (fill sameRow nothing (posting input (view rs input) .added) rs)
 
-passed-all : (rs : List Row) (input : Row) → isDone (orderStatus rs input) ≡ true → Passed rs input
-unfolding orderStatus judged termsOf estimated
+passed-all : (rs : List Row) (input : Row) → isDone (order rs input .status) ≡ true → Passed rs input
+unfolding order plan checked finish finished limited posted written puts posting
 passed-all rs input =
-    go (is kindFree (v .account)) (is kindFree (v .security)) untax (eqb (v .rate) 0) (eqb (v .charge) 0)
-    (leb (v .number) (tradeNumber .high)) (leb (rowsAdded input) (room rs)) refl refl refl refl refl refl refl
+    go (is kindFree (v .account)) (is kindFree (v .security)) untax (leb 1 (v .rate)) (leb 1 (v .charge))
+    (leb (v .number) (tradeNumber .high)) (leb (length (posting input v .added)) (room rs)) (rollBack (input .flags))
+    refl refl refl refl refl refl refl refl
   where
     v : View
     v = view rs input
@@ -60,25 +60,36 @@ passed-all rs input =
     untax : Bool
     untax = untaxed (v .account .form) (v .rates) (walked input v .bought) (walked input v .sold)
 
-    go : (a b c d e f g : Bool) → is kindFree (v .account) ≡ a → is kindFree (v .security) ≡ b → untax ≡ c
-        → eqb (v .rate) 0 ≡ d → eqb (v .charge) 0 ≡ e → leb (v .number) (tradeNumber .high) ≡ f
-        → leb (rowsAdded input) (room rs) ≡ g
-        → isDone (orderStatus rs input) ≡ true → Passed rs input
-    go true b c d e f g ea eb ec ed ee ef eg k = absurd (false≢true (rw ea at k))
-    go false true c d e f g ea eb ec ed ee ef eg k = absurd (false≢true (rw (ea, eb) at k))
-    go false false true d e f g ea eb ec ed ee ef eg k = absurd (false≢true (rw (ea, eb, ec) at k))
-    go false false false true e f g ea eb ec ed ee ef eg k = absurd (false≢true (rw (ea, eb, ec, ed) at k))
-    go false false false false true f g ea eb ec ed ee ef eg k = absurd (false≢true (rw (ea, eb, ec, ed, ee) at k))
-    go false false false false false false g ea eb ec ed ee ef eg k =
-        absurd (false≢true (rw (ea, eb, ec, ed, ee, ef) at k))
-    go false false false false false true false ea eb ec ed ee ef eg k =
-        absurd (false≢true (rw (ea, eb, ec, ed, ee, ef, eg) at k))
-    go false false false false false true true ea eb ec ed ee ef eg k = record {
+    go : (a b c d e f g h : Bool) → is kindFree (v .account) ≡ a → is kindFree (v .security) ≡ b → untax ≡ c
+        → leb 1 (v .rate) ≡ d → leb 1 (v .charge) ≡ e → leb (v .number) (tradeNumber .high) ≡ f
+        → leb (length (posting input v .added)) (room rs) ≡ g → rollBack (input .flags) ≡ h
+        → isDone (order rs input .status) ≡ true → Passed rs input
+    go true b c d e f g h ea eb ec ed ee ef eg eh k = absurd (false≢true (rw ea at k))
+    go false true c d e f g h ea eb ec ed ee ef eg eh k = absurd (false≢true (rw (ea, eb) at k))
+    go false false true d e f g h ea eb ec ed ee ef eg eh k = absurd (false≢true (rw (ea, eb, ec) at k))
+    go false false false false e f g h ea eb ec ed ee ef eg eh k = absurd (false≢true (rw (ea, eb, ec, ed) at k))
+    go false false false true false f g h ea eb ec ed ee ef eg eh k =
+        absurd (false≢true (rw (ea, eb, ec, ed, ee) at k))
+    go false false false true true false g true ea eb ec ed ee ef eg eh k =
+        absurd (false≢true (rw (ea, eb, ec, ed, ee, ef, eh) at k))
+    go false false false true true false g false ea eb ec ed ee ef eg eh k =
+        absurd (false≢true (rw (ea, eb, ec, ed, ee, ef, eh) at k))
+    go false false false true true true false true ea eb ec ed ee ef eg eh k =
+        absurd (false≢true (rw (ea, eb, ec, ed, ee, ef, eg, eh) at k))
+    go false false false true true true false false ea eb ec ed ee ef eg eh k =
+        absurd (false≢true (rw (ea, eb, ec, ed, ee, ef, eg, eh) at k))
+    go false false false true true true true h ea eb ec ed ee ef eg eh k = record {
       account = ea;
       security = eb;
       number = leb-true (v .number) (tradeNumber .high) ef;
-      space = leb-true (rowsAdded input) (room rs) eg;
+      space = leb-true (length (posting input v .added)) (room rs) eg;
+      rows = last h eh;
     }
+      where
+        last : (h : Bool) → rollBack (input .flags) ≡ h
+            → order rs input .rows ≡ cond (rollBack (input .flags)) rs (fill sameRow nothing (posting input v .added) rs)
+        last true e = rw (ea, eb, ec, ed, ee, ef, eg, e)
+        last false e = rw (ea, eb, ec, ed, ee, ef, eg, e)
 
 module _ (rs : List Row) (input : Row) (good : sound rs ≡ true) (right : orderInput input ≡ true) where
   abbrev v : View
@@ -145,7 +156,7 @@ module _ (rs : List Row) (input : Row) (good : sound rs ≡ true) (right : order
       omega (arith, taken .0, taken .1)
 
   taken : Passed rs input → Taken rs input (v .account .n1) (v .number) cost (v .charge) commission
-  unfolding view nextNumber
+  unfolding view nextNumber posting
   taken ok = record {
     good = good;
     right = right;
@@ -161,7 +172,6 @@ module _ (rs : List Row) (input : Row) (good : sound rs ≡ true) (right : order
     space =
         let e = room-is rs good in
         let s = ok .space in
-        let n : length hs ≡ rowsAdded input = how-many (atMarket input) _ in
         omega arith;
   }
 
@@ -182,9 +192,9 @@ module _ (rs : List Row) (input : Row) (good : sound rs ≡ true) (right : order
         s10 = done-left o;
       })
 
-  after-sound : Passed rs input → sound (rowsAfter rs input (termsOf rs input) (estimated rs input)) ≡ true
-  unfolding rowsAfter termsOf estimated
-  after-sound ok = go (rollBack (input .flags))
+  after-sound : (ok : Passed rs input) → sound (order rs input .rows) ≡ true
+  unfolding posting
+  after-sound ok = ap sound (ok .rows) ∙ go (rollBack (input .flags))
     where
       go : (t : Bool) → sound (cond t rs (fill sameRow nothing hs rs)) ≡ true
       go true = good
@@ -192,18 +202,12 @@ module _ (rs : List Row) (input : Row) (good : sound rs ≡ true) (right : order
 
 pub order-sound : (rs : List Row) (input : Row) → sound rs ≡ true → orderInput input ≡ true
     → isDone (order rs input .status) ≡ true → sound (order rs input .rows) ≡ true
-order-sound rs input good right done =
-    let d : isDone (orderStatus rs input) ≡ true = ap isDone (sym (judged-status rs input)) ∙ done in
-    ap (λ (x : Outcome). sound (x .rows)) (judged-outcome rs input d)
-    ∙ after-sound rs input good right (passed-all rs input d)
+order-sound rs input good right done = after-sound rs input good right (passed-all rs input done)
 
 -- and as many rows
 pub order-length : (rs : List Row) (input : Row) → isDone (order rs input .status) ≡ true
     → length (order rs input .rows) ≡ length rs
-unfolding rowsAfter
-order-length rs input done =
-    let d : isDone (orderStatus rs input) ≡ true = ap isDone (sym (judged-status rs input)) ∙ done in
-    ap (λ (x : Outcome). length (x .rows)) (judged-outcome rs input d) ∙ go (rollBack (input .flags)) _
+order-length rs input done = ap length (passed-all rs input done .rows) ∙ go (rollBack (input .flags)) _
   where
     go : (t : Bool) (hs : List Row) → length (cond t rs (fill sameRow nothing hs rs)) ≡ length rs
     go true hs = refl

@@ -10,6 +10,7 @@ use borrow.Author.Tests.{eq-eqb, eqb-false, eqb-true, le-ltb, leb-false, ne-eqb}
 use Rattle.laws.specs.All.{All}
 use Rattle.laws.specs.Keep.{count-has}
 use Rattle.laws.specs.Search.{count}
+use Rattle.laws.specs.Puts.{count-no}
 use Rattle.record.specs.Codes.{kindRequest, kindTrade, kindTradeHistory, pending, submitted, tlb, tms}
 use Rattle.record.specs.Key.{among, byId, keyOf}
 use Rattle.record.specs.declared.key.Key.{Key}
@@ -19,15 +20,14 @@ use Rattle.model.specs.Order.{firstStatus}
 use Rattle.model.specs.Rows.{found, hasKey, is, nothing}
 use Rattle.model.specs.Sound.{higher}
 use Rattle.model.specs.SoundMeans.{S6, S7, There}
-use Rattle.tables.specs.Found.{own-number}
-use Rattle.result.specs.Apart.{own-key}
+use Rattle.facts.specs.Found.{own-number}
+use Rattle.facts.specs.Keys.{own-key}
 use Rattle.kept.specs.Cases.{by-cases}
 use Rattle.kept.specs.Looks.{agrees-not, agrees-of, agreesBy}
 use Rattle.kept.specs.OrderAdds.{grown-comes, grown-count, grown-each, still-count}
 use Rattle.kept.specs.OrderFresh.{Taken, added, book, count-added, each-added, history, none-numbered}
 use Rattle.kept.specs.OrderFresh.{not-numbered, number-below, other-numbered, request, trade, trade-below}
 use Rattle.kept.specs.OrderNames.{left, off-found, off-key, stays}
-use Rattle.laws.specs.Puts.{count-no}
 
 -- ---- requests
 all-six : {a b c d e f : Bool} → a ≡ true → b ≡ true → c ≡ true → d ≡ true → e ≡ true → f ≡ true

@@ -11,6 +11,7 @@ use borrow.Author.Tests.{eq-eqb, eqb-false, eqb-true}
 use Rattle.laws.specs.All.{All}
 use Rattle.laws.specs.Change.{puts}
 use Rattle.laws.specs.Search.{count, the, total}
+use Rattle.laws.specs.Puts.{Inside, More, Quiet, each-row, has-come, mem-map, no-fewer, no-more, puts-total, the-puts}
 use Rattle.record.specs.Codes.{kindAccount, kindBroker, kindCash, kindFree, kindSettlement, kindTrade}
 use Rattle.record.specs.Codes.{kindTradeHistory}
 use Rattle.record.specs.Key.{among, keyOf, sameKey}
@@ -18,15 +19,14 @@ use Rattle.record.specs.declared.key.Key.{Key}
 use Rattle.record.specs.declared.row.Row.{Row}
 use Rattle.model.specs.Lots.{Closing}
 use Rattle.model.specs.Rows.{found, hasKey, is, nothing, sameRow}
-use Rattle.shelf.specs.Put.{row-itself, same-rows}
-use Rattle.result.specs.Apart.{broker-key, holding-key, key-kind, trade-key}
-use Rattle.result.specs.Own.{Read, Sums, added, brokerWrite, tradeWrite, writes}
-use Rattle.feed.specs.Steps.{OfKind, key-of, kind-of}
+use Rattle.model.specs.Result.{Sums, added, brokerWrite, tradeWrite}
+use Rattle.facts.specs.Rows.{row-itself, same-rows}
+use Rattle.facts.specs.Keys.{OfKind, key-kind, key-of, kind-of}
+use Rattle.facts.specs.Result.{Read, broker-key, holding-key, trade-key, writes}
+use Rattle.facts.specs.Posted.{adds, same-sums}
 use Rattle.kept.specs.Cases.{no, not-among}
-use Rattle.kept.specs.Posted.{adds, same-sums}
 use Rattle.kept.specs.ResultBase.{all, all-inside}
 use Rattle.kept.specs.ResultEach.{by-kind, lotKinds}
-use Rattle.laws.specs.Puts.{Inside, More, Quiet, each-row, has-come, mem-map, no-fewer, no-more, puts-total, the-puts}
 
 -- the other kinds that a result writes, and a kind that it does not
 abbrev ownKinds : List ℕ

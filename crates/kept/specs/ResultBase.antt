@@ -1,12 +1,11 @@
 -- What a result that is done writes: the trade is there and submitted, and there is room; each row that gives way is
 -- there as often as it gives way. Assumes nothing.
 use mathlib.Core.Path.{_≡_, refl, sym, ap, _∙_}
-use mathlib.Core.Bool.{Bool, true, false, _&&_, false≢true}
+use mathlib.Core.Bool.{Bool, true, false, false≢true}
 use mathlib.Core.List.{List, [], _∷_, _++_, List·Memᴰ}
 use Prim.Native.Nat.{_+_, _≤_}
 use native.Mathlib.Omega.{arith}
 use lib.Dec.{eqb, leb}
-use lib.IntN.{natAbs}
 use lib.ListN.{length}
 use borrow.Author.Tests.{eq-eqb, eqb-true, leb-false, leb-true}
 use Rattle.laws.specs.All.{all-map, all-one}
@@ -14,30 +13,27 @@ use Rattle.laws.specs.Change.{puts}
 use Rattle.laws.specs.Keep.{count-append, count-map, count-none, count-on}
 use Rattle.laws.specs.Search.{count}
 use Rattle.laws.specs.Tests.{one-truth}
+use Rattle.laws.specs.Puts.{Inside, count-length, count-less, count-no, is-counted, member, olds}
 use Rattle.record.specs.Codes.{kindFree, submitted}
 use Rattle.record.specs.Key.{keyOf}
 use Rattle.record.specs.KeyLaws.{key-itself}
 use Rattle.record.specs.declared.row.Row.{Row}
 use Rattle.rules.specs.Meaning.{Fits}
-use Rattle.rules.specs.Ranges.{brokerTrades, commissionTotal, moneyMost}
 use Rattle.model.specs.Call.{isDone}
 use Rattle.model.specs.Lots.{Closing}
 use Rattle.model.specs.Money.{untaxed}
 use Rattle.model.specs.Names.{aBroker}
-use Rattle.model.specs.Plan.{Posting, checked, finished, limited, posted, room}
-use Rattle.model.specs.Result.{Figures, View, figures, finish, plan, posting, result, view, withBroker}
+use Rattle.model.specs.Plan.{Plan, Posting, checked, finished, limited, post, posted, refuse, refused, room}
+use Rattle.model.specs.Result.{Figures, Sums, View, added, figures, finish, plan, posting, result, sumsOf, view}
+use Rattle.model.specs.Result.{withBroker, within}
 use Rattle.model.specs.Rows.{found, hasKey, is, nothing, sameRow}
 use Rattle.model.specs.Sound.{sound}
 use Rattle.model.specs.SoundMeans.{means-s1, means-sound}
-use Rattle.shelf.specs.Put.{clean-fit, row-itself, same-rows}
-use Rattle.result.specs.Apart.{once}
-use Rattle.verdict.specs.Figures.{figuresSeen}
-use Rattle.verdict.specs.Judge.{inRange}
-use Rattle.result.specs.Own
-use Rattle.result.specs.Own.{Read, Sums, added, all-own}
-use Rattle.result.specs.Posted.{reads, sumsOf, writes-once}
-use Rattle.kept.specs.Posted.{adds, posted-puts, writes}
-use Rattle.laws.specs.Puts.{Inside, count-length, count-less, count-no, is-counted, member, olds}
+use Rattle.facts.specs.Rows.{clean-fit, row-itself, same-rows}
+use Rattle.facts.specs.Sound.{once}
+use Rattle.facts.specs.Result.{Read, all-own, reads, writes-once}
+use Rattle.facts.specs.Result
+use Rattle.facts.specs.Posted.{adds, posted-puts, writes}
 
 -- what a result posts on these rows
 abbrev pub postingOf : List Row → Row → Posting
@@ -50,8 +46,9 @@ postingOf rs input =
 pub record Accepted (rs : List Row) (input : Row) : Type 0 where
   pub live : is kindFree (view rs input .trade) ≡ false
   pub sent : view rs input .trade .status ≡ submitted
-  pub within : inRange (found (aBroker (view rs input .account .n1)) rs) (figuresSeen input (view rs input)) ≡ true
+  pub within : within (found (aBroker (view rs input .account .n1)) rs) (figures input (view rs input)) ≡ true
   pub space : length (postingOf rs input .added) ≤ room rs
+  pub answer : result rs input .answer ≡ postingOf rs input .answer ∷ []
   pub rows : result rs input .rows ≡ posted (postingOf rs input) rs
 
 pub accepted-all : (rs : List Row) (input : Row) → isDone (result rs input .status) ≡ true → Accepted rs input
@@ -73,9 +70,7 @@ accepted-all rs input =
     untax = untaxed (v .account .form) (v .rates) (f .walked .bought) (f .walked .sold)
 
     inside : Bool
-    inside =
-        leb (natAbs (f .balance)) moneyMost && leb (b .n1 + 1) (brokerTrades .high)
-        && leb (b .m1 + f .commission) (commissionTotal .high)
+    inside = within b f
 
     go : (a c d e g h : Bool) → is kindFree (v .trade) ≡ a → eqb (v .trade .status) submitted ≡ c → untax ≡ d
         → leb 1 (v .rate) ≡ e → inside ≡ g → leb (length (postingOf rs input .added)) (room rs) ≡ h
@@ -92,8 +87,31 @@ accepted-all rs input =
       sent = eqb-true (v .trade .status) submitted ec;
       within = eg;
       space = leb-true (length (postingOf rs input .added)) (room rs) eh;
+      answer = rw (ea, ec, ed, ee, eg, eh);
       rows = rw (ea, ec, ed, ee, eg, eh);
     }
+
+-- one that is not done changes and answers nothing
+refused-plan : (rs : List Row) (a : Row) (f : Figures) (p : Plan) → isDone (finish rs a f p .status) ≡ false
+    → finish rs a f p ≡ refused (finish rs a f p .status) rs
+unfolding finish finished limited
+refused-plan rs a f (refuse s) d = refl
+refused-plan rs a f (post p) d = go (within b f) (leb (length (p .added)) (room rs)) refl refl
+  where
+    b : Row
+    b = found (aBroker (a .n1)) rs
+
+    go : (g h : Bool) → within b f ≡ g → leb (length (p .added)) (room rs) ≡ h
+        → finish rs a f (post p) ≡ refused (finish rs a f (post p) .status) rs
+    go true true eg eh = absurd (false≢true (sym d ∙ rw (eg, eh)))
+    go true false eg eh = rw (eg, eh)
+    go false h eg eh = rw eg
+
+pub refused-all : (rs : List Row) (input : Row) → isDone (result rs input .status) ≡ false
+    → result rs input ≡ refused (result rs input .status) rs
+unfolding result
+refused-all rs input d =
+    let v = view rs input in refused-plan rs (v .account) (figures input v) (plan input v) d
 
 -- a free place of a sound book holds nothing
 pub free-nothing : (rs : List Row) → sound rs ≡ true → (x : Row) → List·Memᴰ x rs → x .kind ≡ kindFree → x ≡ nothing
@@ -116,7 +134,7 @@ module _ {rs : List Row} {t summary account broker : Row} {cs : List Closing}
   hs = added t summary cs n
 
   abbrev turned : List (Row × Row)
-  turned = Own.writes t summary account broker cs n
+  turned = Result.writes t summary account broker cs n
 
   abbrev pub all : List (Row × Row)
   all = adds hs ++ turned

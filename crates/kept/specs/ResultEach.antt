@@ -12,22 +12,22 @@ use Rattle.laws.specs.All.{All, all-append, all-cond, all-keep, all-map, all-mo
 use Rattle.laws.specs.Keep.{keep-from}
 use Rattle.laws.specs.Search.{keep}
 use Rattle.laws.specs.Tests.{and-left, and-right}
-use Rattle.record.specs.Codes.{kindAccount, kindBroker, kindCash, kindFree, kindLot, kindLotHistory, kindSettlement}
-use Rattle.record.specs.Codes.{kindSummary, kindTrade, kindTradeHistory}
+use Rattle.record.specs.Codes.{completed, kindAccount, kindBroker, kindCash, kindFree, kindLot, kindLotHistory}
+use Rattle.record.specs.Codes.{kindSettlement, kindSummary, kindTrade, kindTradeHistory}
 use Rattle.record.specs.declared.row.Row.{Row}
+use Rattle.record.specs.Key.{among}
 use Rattle.model.specs.Flags.{cash}
 use Rattle.model.specs.Lots.{Closing}
-use Rattle.model.specs.Result.{leftOf, signed}
+use Rattle.model.specs.Result.{Sums, accountChanges, added, brokerWrite, cashRow, closedLots, closingRows, finalRows}
+use Rattle.model.specs.Result.{gone, holding, leftOf, lotChanges, lotHistory, newLot, newSummary, openingRows}
+use Rattle.model.specs.Result.{reduced, settlementRow, signed, summaryChanges, summaryGone, summaryRows, summedShares}
+use Rattle.model.specs.Result.{tradeWrite}
 use Rattle.model.specs.Rows.{is, nothing}
-use Rattle.result.specs.Own.{Read, Sums, added, brokerWrite, tradeWrite}
-use Rattle.result.specs.Place.{frees}
-use Rattle.result.specs.Rows.{accountChanges, cashRow, closedLots, closingRows, finalRows, gone, holding, lotChanges}
-use Rattle.result.specs.Rows.{lotHistory, newLot, newSummary, openingRows, reduced, settlementRow, summaryChanges}
-use Rattle.result.specs.Rows.{summaryGone, summaryRows, summedShares, tradeHistory}
-use Rattle.feed.specs.Steps.{OfKind}
-use Rattle.record.specs.Key.{among}
+use Rattle.model.specs.History.{historyRow}
+use Rattle.facts.specs.Keys.{OfKind}
+use Rattle.facts.specs.Posted.{adds, frees}
+use Rattle.facts.specs.Result.{Read}
 use Rattle.kept.specs.Cases.{by-cases, not-among}
-use Rattle.kept.specs.Posted.{adds}
 use Rattle.kept.specs.ResultBase.{all}
 
 -- ---- the rows that are added
@@ -44,7 +44,7 @@ abbrev pub summaryOpened : Row → Row → Row
 summaryOpened t summary = newSummary t (summedShares t summary)
 
 abbrev pub historyOf : Row → Sums → Row
-historyOf t n = tradeHistory t (n .time)
+historyOf t n = historyRow completed (t .id) (n .time)
 
 abbrev pub settlementOf : Row → Sums → Row
 settlementOf t n = settlementRow t (n .amount) (n .time)

@@ -18,12 +18,12 @@ use Rattle.rules.specs.Meaning.{means-trade}
 use Rattle.rules.specs.Rules.{as-kind, rules}
 use Rattle.model.specs.Lots.{Closing, size}
 use Rattle.model.specs.Money.{buys}
-use Rattle.model.specs.Result.{leftOf, signed}
+use Rattle.model.specs.Result.{leftOf, signed, Sums, added, brokerWrite, tradeWrite, gone, holding, reduced}
+use Rattle.model.specs.Result.{summedShares}
 use Rattle.model.specs.Rows.{is, nothing, sameRow}
 use Rattle.model.specs.SoundMeans.{S1, means-sound}
-use Rattle.result.specs.Own.{Read, Sums, added, brokerWrite, tradeWrite}
-use Rattle.result.specs.Rows.{gone, holding, reduced, summedShares}
-use Rattle.result.specs.Summary.{sum-size}
+use Rattle.facts.specs.Signed.{sum-size}
+use Rattle.facts.specs.Result.{Read}
 use Rattle.kept.specs.ResultAfter.{after, after-each}
 use Rattle.kept.specs.ResultFitsRanges.{new-put}
 use Rattle.kept.specs.ResultFitsRows.{Small, account-left-fits, broker-left-fits, cash-fits, history-fits}

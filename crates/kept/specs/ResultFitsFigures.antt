@@ -15,9 +15,9 @@ use Rattle.rules.specs.Ranges.{charged, commissionPart, fee, moneyMost, priceMo
 use Rattle.model.specs.Lots.{start, step, walk}
 use Rattle.model.specs.Lots
 use Rattle.model.specs.Money.{buys, commissionOf, settlementOf, taxOf, taxable}
-use Rattle.lots.specs.Money.{commission-taken, tax-none, tax-taken}
-use Rattle.lots.specs.Walk.{Within, step-within, valueMost}
-use Rattle.verdict.specs.Signed.{bought-is, difference-near, sold-is, withheld-most}
+use Rattle.facts.specs.Money.{commission-taken, tax-none, tax-taken, bought-is, sold-is, withheld-most}
+use Rattle.facts.specs.Lots.{Within, step-within, valueMost}
+use Rattle.facts.specs.Signed.{difference-near}
 use Rattle.kept.specs.Cases.{by-cases}
 
 -- ---- the walk's values

@@ -17,9 +17,9 @@ use Rattle.rules.specs.Rules.{accountLimits, brokerLimits, lotLimits, summaryLi
 use Rattle.model.specs.Edit.{bits32, bits64}
 use Rattle.model.specs.Flags.{cash}
 use Rattle.model.specs.Money.{buys}
-use Rattle.model.specs.Result.{settlementSeconds, signed}
-use Rattle.result.specs.Own.{Sums, brokerWrite, tradeWrite}
-use Rattle.result.specs.Rows.{cashRow, holding, lotHistory, newSummary, settlementRow, tradeHistory}
+use Rattle.model.specs.Result.{settlementSeconds, signed, Sums, brokerWrite, tradeWrite, cashRow, holding, lotHistory}
+use Rattle.model.specs.Result.{newSummary, settlementRow}
+use Rattle.model.specs.History.{historyRow}
 use Rattle.kept.specs.ResultFitsRanges.{Field, all-put, bits-most, bits-none, field, low-apart, low-most}
 use Rattle.kept.specs.ResultFitsRanges.{low-tell, new-put}
 use Rattle.kept.specs.ResultLotsSides.{bits-tell, signed-size}
@@ -54,7 +54,7 @@ module _ (t : Row) (fit : Trade t) where
   abbrev traded : Field
   traded = field symbol (t .symbol) any64 (omega arith) (fit .0 .0 .0 .2 .2 .2 .2 .2 .2 .1)
 
-  pub history-fits : (at : ℕ) → at ≤ time .high → TradeHistory (tradeHistory t at)
+  pub history-fits : (at : ℕ) → at ≤ time .high → TradeHistory (historyRow completed (t .id) at)
   history-fits at h =
       new-put (
       of kindTradeHistory ∷ field status completed tradeStatus (omega arith) (omega arith) ∷ own

@@ -1,5 +1,5 @@
 -- A result that is accepted leaves S1 and S8. Assumes nothing.
-use mathlib.Core.Path.{_≡_, refl}
+use mathlib.Core.Path.{_≡_}
 use mathlib.Core.Bool.{true, _&&_}
 use mathlib.Core.List.{List}
 use Prim.Native.Nat.{_+_, _*_, _≤_}
@@ -12,42 +12,25 @@ use Rattle.laws.specs.All.{All}
 use Rattle.laws.specs.Tests.{and-left, and-right}
 use Rattle.record.specs.declared.row.Row.{Row}
 use Rattle.rules.specs.Meaning.{means-result-input}
-use Rattle.rules.specs.Ranges.{brokerTrades, charged, commissionPart, commissionTotal, fee, moneyMost, priceMost}
-use Rattle.rules.specs.Ranges.{sharesMost, taxPart}
+use Rattle.rules.specs.Ranges.{brokerTrades, commissionTotal, fee, moneyMost, priceMost, sharesMost}
 use Rattle.rules.specs.Rules.{resultInput}
 use Rattle.model.specs.Names.{aBroker}
-use Rattle.model.specs.Result.{figures, posting, view}
+use Rattle.model.specs.Result.{figures, posting, view, sumsOf}
 use Rattle.model.specs.Rows.{found, mostRecords}
 use Rattle.model.specs.Sound.{sound}
 use Rattle.model.specs.SoundMeans.{S1, S8}
-use Rattle.verdict.specs.Figures.{charge-fits, price-fits, rate-fits, rates-fit, termsOf}
-use Rattle.result.specs.Posted.{sumsOf}
+use Rattle.facts.specs.Most.{price-fits, charge-near, rate-near, rates-near, shares-near}
 use Rattle.kept.specs.ResultBase.{Accepted}
 use Rattle.kept.specs.ResultFits.{s1-after}
 use Rattle.kept.specs.ResultFitsFigures.{commission-in-range, settlement-in-range, sold-in-range, tax-in-range}
 use Rattle.kept.specs.ResultFitsRows.{Small}
 use Rattle.kept.specs.ResultLeft.{read, resultLeaves, space}
 use Rattle.kept.specs.ResultLots.{s8-after}
-use Rattle.kept.specs.ResultLotsWalk.{lot-fits, trade-fits, walked}
+use Rattle.kept.specs.ResultLotsWalk.{lot-fits, walked}
 
 module _ (rs : List Row) (input : Row) (good : sound rs ≡ true) (right : resultInput input ≡ true)
     (few : length rs ≤ mostRecords) (ok : Accepted rs input) where
-  -- ---- what it reads is in its range
-  shares-near : view rs input .trade .n1 ≤ sharesMost
-  shares-near = trade-fits rs input good few (ok .live) (ok .sent) .0 .0 .0 .2 .2 .2 .2 .2 .2 .2 .1
-
-  rate-near : view rs input .rate ≤ commissionPart .high
-  unfolding termsOf
-  rate-near = rate-fits rs input {t = termsOf rs input} good refl
-
-  rates-near : view rs input .rates ≤ taxPart .high
-  unfolding termsOf
-  rates-near = rates-fit rs input {t = termsOf rs input} good refl
-
-  charge-near : view rs input .trade .n4 ≤ charged .high
-  unfolding termsOf
-  charge-near = charge-fits rs input {t = termsOf rs input} good refl
-
+  -- ---- what it reads is in its range, the lots, too
   prices-near : All (λ (l : Row). l .n1 ≤ priceMost) (view rs input .lots)
   unfolding view
   prices-near l m =
@@ -59,7 +42,7 @@ module _ (rs : List Row) (input : Row) (good : sound rs ≡ true) (right : resul
   unfolding figures
   commission-most =
       let v = view rs input in
-      commission-in-range (v .rate) (v .trade .n1) (input .n1) rate-near shares-near (price-fits input right)
+      commission-in-range (v .rate) (v .trade .n1) (input .n1) (rate-near rs input good) (shares-near rs input good) (price-fits input right)
 
   tax-most : figures input (view rs input) .tax ≤ fee .high
   unfolding figures
@@ -67,8 +50,8 @@ module _ (rs : List Row) (input : Row) (good : sound rs ≡ true) (right : resul
       let v = view rs input in
       let t = v .trade in
       let price = price-fits input right in
-      let sold = sold-in-range (t .form) (input .n1) (t .n1) (v .lots) price prices-near shares-near in
-      tax-in-range (v .account .form) (v .rates) _ _ rates-near sold
+      let sold = sold-in-range (t .form) (input .n1) (t .n1) (v .lots) price prices-near (shares-near rs input good) in
+      tax-in-range (v .account .form) (v .rates) _ _ (rates-near rs input good) sold
 
   amount-most : natAbs (figures input (view rs input) .settlement) ≤ moneyMost
   unfolding figures
@@ -76,7 +59,8 @@ module _ (rs : List Row) (input : Row) (good : sound rs ≡ true) (right : resul
       let v = view rs input in
       let t = v .trade in
       settlement-in-range (t .form) (v .account .form) (t .n1 * input .n1) (t .n4) _ _
-      (mul-le-mul {n₂ = sharesMost} shares-near (price-fits input right)) charge-near commission-most tax-most
+      (mul-le-mul {n₂ = sharesMost} (shares-near rs input good) (price-fits input right)) (charge-near rs input good)
+      commission-most tax-most
 
   small : Small (found (aBroker (view rs input .account .n1)) rs) (sumsOf input (figures input (view rs input)))
   small =

@@ -11,7 +11,9 @@ use Rattle.laws.specs.Keep.{the-has}
 use Rattle.laws.specs.Place.{the-passes}
 use Rattle.laws.specs.Search.{bit, count, the}
 use Rattle.laws.specs.Tests.{and-both, and-left, and-right}
-use Rattle.record.specs.Codes.{completed, kindCash, kindFree, kindLotHistory, kindSummary, kindTradeHistory, submitted}
+use Rattle.laws.specs.Puts.{count-less, count-no, the-one}
+use Rattle.record.specs.Codes.{completed, kindCash, kindFree, kindLotHistory, kindSummary, kindTradeHistory}
+use Rattle.record.specs.Codes.{submitted}
 use Rattle.record.specs.Key.{keyOf}
 use Rattle.record.specs.KeyLaws.{keys-tell, same-keys}
 use Rattle.record.specs.declared.key.Key.{Key}
@@ -21,13 +23,13 @@ use Rattle.model.specs.Names.{aCash, aHistory, aSettlement, aSummary, aTrade}
 use Rattle.model.specs.Rows.{found, hasKey, is, nothing, there}
 use Rattle.model.specs.Sound.{higher}
 use Rattle.model.specs.SoundMeans.{S2, SoundBook, means-sound}
-use Rattle.shelf.specs.Put.{found-none}
-use Rattle.tables.specs.Names.{by-id, by-status, ofId}
-use Rattle.result.specs.Apart.{found-kind, key-kind}
-use Rattle.result.specs.Own.{Read, Sums}
+use Rattle.model.specs.Result.{Sums}
+use Rattle.facts.specs.Found.{found-none, found-kind}
+use Rattle.facts.specs.Names.{by-id, by-status, ofId}
+use Rattle.facts.specs.Keys.{key-kind}
+use Rattle.facts.specs.Result.{Read}
 use Rattle.kept.specs.Cases.{by-cases, not-so}
 use Rattle.kept.specs.ResultEach.{lotOpened}
-use Rattle.laws.specs.Puts.{count-less, count-no, the-one}
 
 -- ---- keys of a book where none is there twice
 module _ (rs : List Row) (s2 : S2 rs) where

@@ -11,6 +11,7 @@ use borrow.Author.Tests.{eq-eqb, eqb-false, eqb-true, leb-false, leb-true}
 use Rattle.laws.specs.Change.{puts}
 use Rattle.laws.specs.Keep.{count-append, count-cond, count-has, count-map}
 use Rattle.laws.specs.Search.{bit, count, total}
+use Rattle.laws.specs.Puts.{count-less, count-no, puts-count}
 use Rattle.record.specs.Codes.{kindCash, kindFree, kindLot, kindLotHistory, kindSettlement, kindSummary}
 use Rattle.record.specs.Codes.{kindTradeHistory}
 use Rattle.record.specs.Key.{keyOf}
@@ -22,22 +23,19 @@ use Rattle.model.specs.Lots.{Closing}
 use Rattle.model.specs.Names.{aLot, aSummary}
 use Rattle.model.specs.Rows.{found, hasKey, is, nothing, sameRow}
 use Rattle.model.specs.SoundMeans.{S2}
-use Rattle.shelf.specs.Put.{row-itself, same-rows}
-use Rattle.tables.specs.Found.{own-number}
-use Rattle.result.specs.Apart.{own-key}
-use Rattle.result.specs.Own
-use Rattle.result.specs.Own.{Read, Sums, added, all-own}
-use Rattle.result.specs.Posted.{of-kind}
-use Rattle.result.specs.Rows.{closingRows, finalRows, openingRows, summaryRows}
+use Rattle.model.specs.Result.{Sums, added, closingRows, finalRows, openingRows, summaryRows}
+use Rattle.facts.specs.Rows.{row-itself, same-rows}
+use Rattle.facts.specs.Found.{own-number}
+use Rattle.facts.specs.Keys.{key-of, of-kind, own-key}
+use Rattle.facts.specs.Result.{Read, all-own}
+use Rattle.facts.specs.Result
+use Rattle.facts.specs.Posted.{adds}
 use Rattle.kept.specs.Cases.{by-cases, not-so, one-bit}
-use Rattle.feed.specs.Steps.{key-of}
-use Rattle.kept.specs.Posted.{adds}
 use Rattle.kept.specs.ResultBase.{all, all-inside}
 use Rattle.kept.specs.ResultEach.{cashOf, closingOf, historyOf, lotOpened, openingOf, settlementOf}
 use Rattle.kept.specs.ResultEach.{summaryOpened}
 use Rattle.kept.specs.ResultFresh.{book, no-cash, no-history, no-lot, no-lot-history, no-settlement, no-summary}
 use Rattle.kept.specs.ResultFresh.{one-key}
-use Rattle.laws.specs.Puts.{count-less, count-no, puts-count}
 
 -- ---- the kinds of rows that are added are six, and a key has one of them
 abbrev kinds : ℕ → ℕ
@@ -233,7 +231,7 @@ module _ {rs : List Row} {t summary account broker : Row} {cs : List Closing}
     unfolding keyOf
     after-most x live =
         let hs = added t summary cs n in
-        let ws = Own.writes t summary account broker cs n in
+        let ws = Result.writes t summary account broker cs n in
         let p = hasKey (keyOf x) in
         let p0 : Row × Row → Bool = λ w. p (w .0) in
         let p1 : Row × Row → Bool = λ w. p (w .1) in

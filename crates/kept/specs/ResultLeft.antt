@@ -10,13 +10,12 @@ use Rattle.laws.specs.Search.{count}
 use Rattle.record.specs.declared.row.Row.{Row}
 use Rattle.model.specs.Lots.{closings}
 use Rattle.model.specs.Names.{aBroker, aSummary}
-use Rattle.model.specs.Result.{figures, posting, view}
+use Rattle.model.specs.Result.{figures, posting, sumsOf, view}
 use Rattle.model.specs.Rows.{found, nothing, sameRow}
 use Rattle.model.specs.Sound.{sound}
 use Rattle.model.specs.SoundMeans.{S10, S2, S3, S4, S5, S6, S7, S9}
-use Rattle.result.specs.Own.{Read}
-use Rattle.result.specs.Posted.{reads, sumsOf}
-use Rattle.kept.specs.Posted.{writes}
+use Rattle.facts.specs.Result.{Read, reads}
+use Rattle.facts.specs.Posted.{writes}
 use Rattle.kept.specs.ResultBase.{Accepted, postingOf, room-is}
 use Rattle.kept.specs.ResultKeys.{keys-left}
 use Rattle.kept.specs.ResultNames.{bands-left, names-left, rates-left}

@@ -13,22 +13,28 @@ use borrow.Author.Tests.{eqb-false, leb-false, leb-true, ltb-false, ltb-true, eq
 use mir.Facts.{toZ-ofZ, toZ-pos}
 use mir.Syntax.{w64}
 use mir.Val.{toZ}
+use lib.ListN.{length}
 use Rattle.laws.specs.Search.{bit, count, sumZ}
+use Rattle.laws.specs.Puts.{count-no}
+use Rattle.laws.specs.Keep.{count-has}
+use Rattle.laws.specs.Tests.{and-both, and-left, and-right}
 use Rattle.record.specs.Codes.{kindFree, kindLot, kindSummary}
 use Rattle.record.specs.Signed.{toZ-high}
 use Rattle.record.specs.declared.row.Row.{Row}
+use Rattle.rules.specs.Meaning.{means-fits, means-lot}
+use Rattle.rules.specs.Rules.{as-kind}
 use Rattle.model.specs.Edit.{bits64}
 use Rattle.model.specs.Lots.{Closing, size}
 use Rattle.model.specs.Money.{buys}
 use Rattle.model.specs.Names.{aSummary}
-use Rattle.model.specs.Result.{signed}
+use Rattle.model.specs.Result.{signed, Sums, added, closingRows, finalRows, gone, lotChanges, openingRows}
+use Rattle.model.specs.Result.{summaryChanges, summaryRows, summedShares}
 use Rattle.model.specs.Rows.{hasKey, is, nothing, sameRow, there}
 use Rattle.model.specs.Sound.{lotOf, otherSign, sharesOf}
 use Rattle.model.specs.SoundMeans.{LotRight, S1, S8, SummaryRight, There}
-use Rattle.result.specs.Own.{Read, Sums, added}
-use Rattle.result.specs.Rows.{closingRows, finalRows, gone, lotChanges, openingRows, summaryChanges, summaryRows}
-use Rattle.result.specs.Rows.{summedShares}
-use Rattle.verdict.specs.Signed.{sum-fits}
+use Rattle.facts.specs.Signed.{sum-fits}
+use Rattle.facts.specs.Names.{by-holder}
+use Rattle.facts.specs.Result.{Read}
 use Rattle.kept.specs.ResultLotsSides.{signed-size}
 use Rattle.kept.specs.ResultLotsSigns.{count-untouched, lot-kind, lot-party, lot-symbol, not-mine, not-yours}
 use Rattle.kept.specs.ResultLotsSigns.{one-after, signs-right, sum-untouched, third}
@@ -37,18 +43,11 @@ use Rattle.kept.specs.ResultLotsSummary.{has-holder, key-party, key-symb
 use Rattle.kept.specs.ResultLotsSummary.{nothing-there, summary-own, zero-add}
 use Rattle.kept.specs.ResultEach.{summaryAfter, summaryOpened}
 use Rattle.kept.specs.ResultLotsTrade.{lot-origin, summary-origin}
-use Rattle.laws.specs.Puts.{count-no}
-use Rattle.laws.specs.Keep.{count-has}
-use Rattle.laws.specs.Tests.{and-both, and-left, and-right}
-use Rattle.rules.specs.Meaning.{means-fits, means-lot}
-use Rattle.rules.specs.Rules.{as-kind}
-use Rattle.tables.specs.Names.{by-holder}
 use Rattle.kept.specs.ResultLotsLaw.{summaries-law}
 use Rattle.kept.specs.Cases.{by-cases, no, not-so}
 use Rattle.kept.specs.ResultAfter.{added-comes, after, turned-comes}
 use Rattle.kept.specs.ResultFresh.{book, found-one, no-summary, one-key}
 use Rattle.kept.specs.ResultTrades.{unique}
-use lib.ListN.{length}
 
 -- ---- numbers
 zero-size : (z : ℤ) → natAbs z ≡ 0 → z ≡ pos 0

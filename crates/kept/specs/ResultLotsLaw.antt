@@ -8,23 +8,23 @@ use native.Mathlib.Omega.{arith}
 use lib.Dec.{eqb}
 use lib.ListN.{length}
 use Rattle.laws.specs.Search.{count, keep, total}
+use Rattle.laws.specs.Keep.{keep-from}
+use Rattle.laws.specs.Puts.{puts-total}
+use Rattle.laws.specs.Total.{total-zero}
 use Rattle.record.specs.Codes.{kindAccount, kindBroker, kindCash, kindFree, kindLot, kindLotHistory, kindSettlement}
 use Rattle.record.specs.Codes.{kindSummary, kindTrade, kindTradeHistory}
-use Rattle.laws.specs.Keep.{keep-from}
 use Rattle.record.specs.declared.row.Row.{Row}
 use Rattle.model.specs.Flags.{cash}
 use Rattle.model.specs.Lots.{Closing}
 use Rattle.model.specs.Rows.{is, nothing, sameRow}
-use Rattle.shelf.specs.Put.{row-itself, same-rows}
-use Rattle.result.specs.Own.{Read, Sums, added, brokerWrite, tradeWrite}
-use Rattle.result.specs.Rows.{gone, holding, reduced, summedShares}
-use Rattle.laws.specs.Puts.{puts-total}
+use Rattle.model.specs.Result.{Sums, added, brokerWrite, tradeWrite, gone, holding, reduced, summedShares}
+use Rattle.facts.specs.Rows.{row-itself, same-rows}
+use Rattle.facts.specs.Result.{Read}
 use Rattle.kept.specs.ResultAfter.{after}
 use Rattle.kept.specs.ResultBase.{all, all-inside}
 use Rattle.kept.specs.ResultEach.{cashOf, closingOf, historyOf, lotAfter, lotOpened, openingOf, settlementOf}
 use Rattle.kept.specs.ResultEach.{summaryAfter, summaryOpened}
 use Rattle.kept.specs.ResultLotsTotal.{new-total, old-total}
-use Rattle.laws.specs.Total.{total-zero}
 
 -- ---- what only one kind counts for
 cond-none : (b : Bool) (x : ℕ) → x ≡ 0 → cond b x 0 ≡ 0

@@ -13,7 +13,7 @@ use Rattle.laws.specs.Search.{sumZ, total}
 use Rattle.laws.specs.Tests.{_⇔_}
 use Rattle.record.specs.Signed.{dn, eq-parts, got64, parts-add, up}
 use Rattle.model.specs.Edit.{bits64}
-use Rattle.verdict.specs.Signed.{neg-dn, neg-near, neg-neg, neg-up}
+use Rattle.facts.specs.Signed.{neg-dn, neg-near, neg-neg, neg-up}
 
 -- the side of a trade that buys is above zero, that of one that sells below
 abbrev pub part : Bool → ℤ → ℕ

@@ -13,6 +13,7 @@ use Rattle.laws.specs.Keep.{count-fewer, count-has, count-on, keep-from, the-ha
 use Rattle.laws.specs.Place.{the-passes}
 use Rattle.laws.specs.Search.{bit, count, keep, sumZ, the, total}
 use Rattle.laws.specs.Tests.{_⇔_, and-both, and-left, and-right}
+use Rattle.laws.specs.Total.{total-zero}
 use Rattle.record.specs.Codes.{kindLot}
 use Rattle.record.specs.declared.row.Row.{Row}
 use Rattle.model.specs.Lots.{Closing, closes}
@@ -20,15 +21,14 @@ use Rattle.model.specs.Money.{buys}
 use Rattle.model.specs.Rows.{is, nothing, sameRow}
 use Rattle.model.specs.Sound.{lotOf, otherSign, sharesOf, short}
 use Rattle.model.specs.SoundMeans.{means-sound}
-use Rattle.result.specs.Own.{Read, Sums, added}
-use Rattle.result.specs.Rows.{reduced}
+use Rattle.model.specs.Result.{Sums, added, reduced}
+use Rattle.facts.specs.Result.{Read}
 use Rattle.kept.specs.Cases.{by-cases}
 use Rattle.kept.specs.ResultAfter.{after}
 use Rattle.kept.specs.ResultLotsLaw.{lots-law}
 use Rattle.kept.specs.ResultLotsSides.{eq-sides, iff-one, iff-other, iff-same, iff-turned, iff-two, part}
 use Rattle.kept.specs.ResultLotsSides.{sum-sides}
 use Rattle.kept.specs.ResultLotsSum.{Walked, left-other, no-shares, not-lot, opened-held, opened-short}
-use Rattle.laws.specs.Total.{total-zero}
 use Rattle.kept.specs.ResultEach.{lotAfter, lotOpened}
 
 -- ---- what a lot of an account and symbol is

@@ -15,23 +15,22 @@ use mir.Syntax.{w64}
 use mir.Val.{toZ}
 use Rattle.laws.specs.Keep.{keep-from}
 use Rattle.laws.specs.Search.{count, keep, sumZ, total}
+use Rattle.laws.specs.Total.{total-on, total-parts, total-zero}
 use Rattle.record.specs.Codes.{kindLot}
 use Rattle.record.specs.declared.row.Row.{Row}
 use Rattle.rules.specs.Ranges.{moneyMost, sharesMost}
 use Rattle.model.specs.Lots.{Closing, closes, size}
 use Rattle.model.specs.Money.{buys}
 use Rattle.model.specs.Names.{aSummary}
-use Rattle.model.specs.Result.{leftOf, signed}
+use Rattle.model.specs.Result.{leftOf, signed, Sums, added, reduced}
 use Rattle.model.specs.Rows.{found, is, nothing, sameRow}
 use Rattle.model.specs.Sound.{lotOf, sharesOf, short}
-use Rattle.result.specs.Own.{Read, Sums, added}
-use Rattle.result.specs.Rows.{reduced}
+use Rattle.facts.specs.Result.{Read}
 use Rattle.kept.specs.ResultAfter.{after}
 use Rattle.kept.specs.ResultLotsLaw.{lots-law}
 use Rattle.kept.specs.ResultLotsSides.{add-sides, bits-tell, eq-sides, left-mine, left-short, left-size}
 use Rattle.kept.specs.ResultLotsSides.{left-yours, other-side, part, signed-mine, signed-short, signed-size}
 use Rattle.kept.specs.ResultLotsSides.{signed-yours, sum-sides, zero-sides}
-use Rattle.laws.specs.Total.{total-on, total-parts, total-zero}
 use Rattle.kept.specs.ResultEach.{lotAfter, lotOpened}
 
 -- a lot that a trade closes: of its account and symbol and of the other sign, and some of its shares are taken

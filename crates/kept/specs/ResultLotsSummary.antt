@@ -13,6 +13,7 @@ use mir.Syntax.{w64}
 use mir.Val.{toZ}
 use Rattle.laws.specs.Search.{bit, count, sumZ, total}
 use Rattle.laws.specs.Tests.{and-left, and-right}
+use Rattle.laws.specs.Total.{total-zero}
 use Rattle.record.specs.Codes.{kindFree, kindSummary}
 use Rattle.record.specs.Signed.{eq-parts, parts-add}
 use Rattle.record.specs.declared.row.Row.{Row}
@@ -20,15 +21,14 @@ use Rattle.model.specs.Lots.{Closing, size}
 use Rattle.model.specs.Names.{aSummary}
 use Rattle.model.specs.Rows.{found, hasKey, is, nothing, sameRow}
 use Rattle.model.specs.Sound.{lotOf, sharesOf, short}
-use Rattle.shelf.specs.Put.{found-has}
-use Rattle.tables.specs.Names.{by-holder, ofParty}
-use Rattle.result.specs.Apart.{found-live}
-use Rattle.result.specs.Own.{Read, Sums, added}
+use Rattle.model.specs.Result.{Sums, added}
+use Rattle.facts.specs.Found.{found-has, found-live}
+use Rattle.facts.specs.Names.{by-holder, ofParty}
+use Rattle.facts.specs.Result.{Read}
 use Rattle.kept.specs.Cases.{none-passes}
 use Rattle.kept.specs.ResultFresh.{no-summary, none-found}
 use Rattle.kept.specs.ResultLotsSides.{eq-sides, other-side, part, sum-sides, zero-sides}
 use Rattle.kept.specs.ResultLotsSum.{Walked, no-shares}
-use Rattle.laws.specs.Total.{total-zero}
 
 pub not-not : (b : Bool) → not (not b) ≡ b
 not-not true = refl

@@ -7,19 +7,20 @@ use native.Mathlib.Omega.{arith}
 use lib.Dec.{eqb}
 use Rattle.laws.specs.Search.{keep, total}
 use Rattle.laws.specs.Total.{total-append, total-cond, total-map, total-parts, total-single, total-zero}
+use Rattle.laws.specs.Puts.{news, olds}
 use Rattle.record.specs.Codes.{kindFree}
 use Rattle.record.specs.declared.row.Row.{Row}
 use Rattle.model.specs.Flags.{cash}
 use Rattle.model.specs.Lots.{Closing}
 use Rattle.model.specs.Rows.{is, nothing}
-use Rattle.result.specs.Own.{Read, Sums, added, brokerWrite, tradeWrite, writes}
-use Rattle.result.specs.Rows.{accountChanges, closedLots, closingRows, finalRows, gone, holding, lotChanges}
-use Rattle.result.specs.Rows.{openingRows, reduced, summaryChanges, summaryGone, summaryRows, summedShares}
-use Rattle.kept.specs.Posted.{adds, frees}
+use Rattle.model.specs.Result.{Sums, accountChanges, added, brokerWrite, closedLots, closingRows, finalRows, gone}
+use Rattle.model.specs.Result.{holding, lotChanges, openingRows, reduced, summaryChanges, summaryGone, summaryRows}
+use Rattle.model.specs.Result.{summedShares, tradeWrite}
+use Rattle.facts.specs.Result.{Read, writes}
+use Rattle.facts.specs.Posted.{adds, frees}
 use Rattle.kept.specs.ResultBase.{all}
 use Rattle.kept.specs.ResultEach.{cashOf, closingOf, historyOf, lotAfter, lotOpened, openingOf, settlementOf}
 use Rattle.kept.specs.ResultEach.{summaryAfter, summaryOpened}
-use Rattle.laws.specs.Puts.{news, olds}
 
 module _ {rs : List Row} {t summary account broker : Row} {cs : List Closing}
     (r : Read rs t summary account broker cs) (n : Sums) (μ : Row → ℕ) (none : μ nothing ≡ 0) where

@@ -16,8 +16,8 @@ use Rattle.record.specs.declared.row.Row.{Row}
 use Rattle.model.specs.Lots.{Closing}
 use Rattle.model.specs.Names.{aTrade}
 use Rattle.model.specs.Rows.{found, is, nothing, sameRow}
-use Rattle.result.specs.Own.{Read, Sums, added, brokerWrite, tradeWrite}
-use Rattle.result.specs.Rows.{holding}
+use Rattle.model.specs.Result.{Sums, added, brokerWrite, tradeWrite, holding}
+use Rattle.facts.specs.Result.{Read}
 use Rattle.kept.specs.Cases.{no}
 use Rattle.kept.specs.ResultAfter.{after, after-each}
 use Rattle.kept.specs.ResultEach.{Each, cashOf, closingOf, each-write, historyOf, lotOpened, openingOf}

@@ -22,15 +22,13 @@ use Rattle.model.specs.Flags.{lifo}
 use Rattle.model.specs.Lots.{Closing, Walk, all-shares, before, closes, closings, lotsFor, size, start, step, taken}
 use Rattle.model.specs.Lots.{walk}
 use Rattle.model.specs.Money.{buys}
-use Rattle.model.specs.Result.{figures, view}
+use Rattle.model.specs.Result.{figures, view, sumsOf, reduced}
 use Rattle.model.specs.Rows.{is, mostRecords}
 use Rattle.model.specs.Sound.{lotOf, short, sound}
 use Rattle.model.specs.SoundMeans.{means-sound}
-use Rattle.lots.specs.Lots.{closings-next}
-use Rattle.result.specs.Apart.{all-closings}
-use Rattle.result.specs.Posted.{reads, sumsOf}
-use Rattle.result.specs.Rows.{reduced}
-use Rattle.result.specs.Summary.{summary-fits}
+use Rattle.facts.specs.Lots.{closings-next, all-closings}
+use Rattle.facts.specs.Result.{reads}
+use Rattle.facts.specs.Most.{summary-near}
 use Rattle.kept.specs.ResultLots.{some-size}
 use Rattle.kept.specs.ResultLotsSides.{iff-one}
 use Rattle.kept.specs.ResultLotsSigns.{lot-kind}
@@ -154,5 +152,5 @@ module _ (rs : List Row) (input : Row) (good : sound rs ≡ true) (few : length 
         spent = walk-spent rs good (t .form) (t .flags) (t .party) (t .symbol) (input .n1) (t .n1);
         some = fit .2 .2 .2 .2 .2 .2 .2 .0;
         most = fit .2 .2 .2 .2 .2 .2 .2 .1;
-        near = summary-fits rs good input few;
+        near = summary-near rs input good few;
       }

@@ -14,16 +14,16 @@ use Rattle.laws.specs.Tests.{and-left, and-right}
 use Rattle.record.specs.Codes.{kindBand, kindBroker, kindCustomer, kindCustomerRate, kindLot, kindSummary, kindTrade}
 use Rattle.record.specs.declared.key.Key.{Key}
 use Rattle.record.specs.declared.row.Row.{Row}
+use Rattle.record.specs.Key.{among}
 use Rattle.model.specs.Lots.{Closing}
 use Rattle.model.specs.Names.{aSecurity, aTaxRate, aTrade, anAccount, named, names}
 use Rattle.model.specs.Rows.{hasKey, nothing, sameRow}
 use Rattle.model.specs.Sound.{overlaps}
 use Rattle.model.specs.SoundMeans.{S3, S4, S5, There}
-use Rattle.tables.specs.Found.{own-number}
-use Rattle.result.specs.Apart.{names-account, names-broker}
-use Rattle.result.specs.Own.{Read, Sums, added, brokerWrite, tradeWrite}
-use Rattle.result.specs.Rows.{holding}
-use Rattle.record.specs.Key.{among}
+use Rattle.model.specs.Result.{Sums, added, brokerWrite, tradeWrite, holding}
+use Rattle.facts.specs.Found.{own-number}
+use Rattle.facts.specs.Sound.{names-account, names-broker}
+use Rattle.facts.specs.Result.{Read}
 use Rattle.kept.specs.Looks.{rates-alike}
 use Rattle.kept.specs.ResultAfter.{after, after-each, key-stays, quiet-count, still, still-found, still-sum}
 use Rattle.kept.specs.ResultAfter.{still-was}

@@ -11,25 +11,26 @@ use borrow.Author.Tests.{eq-eqb, eqb-false}
 use Rattle.laws.specs.All.{All}
 use Rattle.laws.specs.Keep.{count-has}
 use Rattle.laws.specs.Search.{bit, count}
+use Rattle.laws.specs.Puts.{Fewer, Quiet}
 use Rattle.record.specs.Codes.{completed, kindCash, kindSettlement, kindTrade}
 use Rattle.record.specs.declared.key.Key.{Key}
 use Rattle.record.specs.declared.row.Row.{Row}
+use Rattle.record.specs.Key.{among}
 use Rattle.model.specs.Flags.{cash}
 use Rattle.model.specs.Lots.{Closing}
 use Rattle.model.specs.Names.{aCash, aSettlement, aSummary, aTrade, byId}
 use Rattle.model.specs.Rows.{found, hasKey, is, nothing, sameRow}
 use Rattle.model.specs.SoundMeans.{Each, S9}
-use Rattle.tables.specs.Found.{own-number}
-use Rattle.result.specs.Own.{Read, Sums, added}
-use Rattle.record.specs.Key.{among}
-use Rattle.tables.specs.Names.{idKinds}
-use Rattle.feed.specs.Steps.{key-of, kind-of}
+use Rattle.model.specs.Result.{Sums, added}
+use Rattle.facts.specs.Found.{own-number}
+use Rattle.facts.specs.Names.{idKinds}
+use Rattle.facts.specs.Keys.{key-of, kind-of}
+use Rattle.facts.specs.Result.{Read}
 use Rattle.kept.specs.Cases.{no}
 use Rattle.kept.specs.ResultAfter.{after-each, after-fewer, quiet-count, quiet-found}
 use Rattle.kept.specs.ResultBase.{all}
 use Rattle.kept.specs.ResultEach.{by-kind, cashOf, settlementOf}
 use Rattle.kept.specs.ResultFresh.{book, found-one, no-cash, no-settlement, one-key}
-use Rattle.laws.specs.Puts.{Fewer, Quiet}
 use Rattle.kept.specs.ResultTrades.{cash-comes, each-trade, left, others, settlement-comes, trade-done}
 use Rattle.kept.specs.ResultTrades.{trade-other, unique}
 

@@ -11,6 +11,7 @@ use borrow.Author.Tests.{eq-eqb, eqb-false, eqb-true, ne-eqb, le-leb, lt-ltb, lt
 use Rattle.laws.specs.Keep.{count-has}
 use Rattle.laws.specs.Search.{count}
 use Rattle.laws.specs.Tests.{and-both, and-left, and-right}
+use Rattle.laws.specs.Puts.{Fewer, Quiet, count-less}
 use Rattle.record.specs.Codes.{completed, kindAccount, kindBroker, kindCash, kindFree, kindLot, kindLotHistory}
 use Rattle.record.specs.Codes.{kindRequest, kindSettlement, kindSummary, kindTrade, kindTradeHistory, pending}
 use Rattle.record.specs.Codes.{submitted, tlb}
@@ -22,19 +23,17 @@ use Rattle.model.specs.Names.{aHistory, aRequest, aSummary, aTrade, anAccount}
 use Rattle.model.specs.Rows.{found, hasKey, is, nothing, sameRow, there}
 use Rattle.model.specs.Sound.{agrees, higher}
 use Rattle.model.specs.SoundMeans.{S10, S6, S7}
-use Rattle.shelf.specs.Put.{found-has}
-use Rattle.tables.specs.Names.{by-party, ofId}
-use Rattle.result.specs.Apart.{found-member, own-key}
-use Rattle.result.specs.Own.{Read, Sums, added, brokerWrite, tradeWrite}
-use Rattle.result.specs.Rows.{holding}
-use Rattle.feed.specs.Steps.{key-of}
+use Rattle.model.specs.Result.{Sums, added, brokerWrite, tradeWrite, holding}
+use Rattle.facts.specs.Found.{found-has, found-member}
+use Rattle.facts.specs.Names.{by-party, ofId}
+use Rattle.facts.specs.Keys.{own-key, key-of}
+use Rattle.facts.specs.Result.{Read}
 use Rattle.kept.specs.Looks.{agrees-of, agreesBy}
 use Rattle.kept.specs.Cases.{no, not-so}
 use Rattle.kept.specs.ResultAfter.{Still, after-each, after-fewer, key-stays, quiet-count, quiet-found, still}
 use Rattle.kept.specs.ResultEach.{Each, by-kind, cashOf, each-write, historyOf, lotAfter, lotOpened}
 use Rattle.kept.specs.ResultEach.{settlementOf, summaryAfter, summaryOpened}
 use Rattle.kept.specs.ResultFresh.{book, found-one}
-use Rattle.laws.specs.Puts.{Fewer, Quiet, count-less}
 use Rattle.kept.specs.ResultTrades.{done, done-now, done-stays, each-trade, history-comes, left}
 
 module _ {rs : List Row} {t summary account broker : Row} {cs : List Closing}

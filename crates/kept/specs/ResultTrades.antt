@@ -11,6 +11,7 @@ use borrow.Author.Tests.{eq-eqb, eqb-false, eqb-true}
 use Rattle.laws.specs.All.{All}
 use Rattle.laws.specs.Search.{count}
 use Rattle.laws.specs.Tests.{and-right}
+use Rattle.laws.specs.Puts.{Quiet}
 use Rattle.record.specs.Codes.{completed, kindAccount, kindBroker, kindFree, kindTrade, kindTradeHistory}
 use Rattle.record.specs.Key.{among}
 use Rattle.record.specs.declared.row.Row.{Row}
@@ -19,19 +20,18 @@ use Rattle.model.specs.Lots.{Closing}
 use Rattle.model.specs.Names.{aSummary, aTrade, byId}
 use Rattle.model.specs.Rows.{found, hasKey, is, nothing, sameRow}
 use Rattle.model.specs.SoundMeans.{Each, S2}
-use Rattle.tables.specs.Found.{own-number}
-use Rattle.tables.specs.Names.{by-id, idKinds}
-use Rattle.result.specs.Own.{Read, Sums, added, tradeWrite}
-use Rattle.result.specs.Rows.{accountChanges, closingRows, finalRows, lotChanges, openingRows, summaryChanges}
-use Rattle.result.specs.Rows.{summaryRows}
-use Rattle.feed.specs.Steps.{key-of, kind-of}
+use Rattle.model.specs.Result.{Sums, added, tradeWrite, accountChanges, closingRows, finalRows, lotChanges}
+use Rattle.model.specs.Result.{openingRows, summaryChanges, summaryRows}
+use Rattle.facts.specs.Found.{own-number}
+use Rattle.facts.specs.Names.{by-id, idKinds}
+use Rattle.facts.specs.Keys.{key-of, kind-of}
+use Rattle.facts.specs.Result.{Read}
 use Rattle.kept.specs.Cases.{by-cases, no, not-among, not-so}
 use Rattle.kept.specs.ResultAfter.{added-comes, after, after-each, quiet-found, turned-comes}
 use Rattle.kept.specs.ResultBase.{all}
 use Rattle.kept.specs.ResultEach.{by-kind, cashOf, historyOf, lotKinds, settlementOf}
 use Rattle.kept.specs.ResultFresh.{found-one}
 use Rattle.kept.specs.ResultKeys.{keys-left}
-use Rattle.laws.specs.Puts.{Quiet}
 
 -- ---- rows of a number
 pub number-is : (k : ℕ) → among k idKinds ≡ true → (i : ℕ) (x : Row) → hasKey (byId k i) x ≡ true → x .id ≡ i

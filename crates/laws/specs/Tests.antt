@@ -5,7 +5,8 @@ use mathlib.Core.Bool.{Bool, true, false, cond, not, _&&_, _||_, false≢true}
 use mathlib.Core.Logic.{_⊎_, inl, inr, ⊎-elim}
 use Prim.Native.Nat.{ℕ, _≤_}
 use lib.Dec.{eqb, leb}
-use borrow.Author.Tests.{leb-true, le-leb, eqb-true, eqb-false, eq-eqb, ne-eqb, not-true}
+use borrow.Author.Tests.{leb-true, le-leb, eqb-true, eqb-false, eq-eqb, ne-eqb, not-true, lt-leb}
+use native.Mathlib.Omega.{arith}
 
 pub and-left : (a b : Bool) → (a && b) ≡ true → a ≡ true
 and-left true b e = refl
@@ -168,3 +169,8 @@ means-cond {a} {x} {y} p f g = record {
   holds = λ h.
       cond-both a x y (λ t. f .holds (h .0 (p .shows t))) (λ n. g .holds (h .1 (λ q. n (p .holds q))));
 }
+
+-- a number is one at least, or it is 0
+pub some : (n : ℕ) (t : Bool) → eqb n 0 ≡ t → leb 1 n ≡ not t
+some n true e = let z = eqb-true n 0 e in lt-leb 1 n (omega arith)
+some n false e = let z = eqb-false n 0 e in le-leb 1 n (omega arith)

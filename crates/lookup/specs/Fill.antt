@@ -19,8 +19,9 @@ use Rattle.model.specs.Names.{aSettlement, aTrade}
 use Rattle.model.specs.Rows.{bytes, found, nothing, rows, there, wholeRecords}
 use Rattle.model.specs.RowsLaws.{bytes-rows}
 use Rattle.model.specs.declared.Status.the-variants.{Done, LookupNoTrade}
+use Rattle.facts.specs.Rows.{length-rows}
+use Rattle.shelf.specs.Rows.{rowAt}
 use Rattle.reply.specs.Left.{answerLeft}
-use Rattle.shelf.specs.Rows.{length-rows, rowAt}
 
 -- every record names a trade that is there
 abbrev pub allKnown : List Row → List Row → Bool

@@ -1,4 +1,3 @@
 pub mod Walk
-pub mod Money
 pub mod Lots
 pub mod Terms

@@ -1,35 +1,30 @@
 -- The lots that a trade closes, as marks in a queue: their order is that of their marks, and in a book that keeps S2
 -- the number of a mark finds its lot again; and what the loop over the numbers keeps. Assumes nothing.
 use mathlib.Core.Path.{_≡_, refl, sym, ap, ap₂, subst, _∙_}
-use mathlib.Core.Bool.{Bool, true, _&&_}
+use mathlib.Core.Bool.{Bool, true}
 use mathlib.Core.List.{List, [], _∷_, map, List·Memᴰ}
 use Prim.Native.Nat.{ℕ, zero, suc, _+_, _-_, _*_, _≤_, _<_}
 use native.Mathlib.Nat.{mul-le-mul-right}
 use native.Mathlib.Omega.{arith}
-use lib.Dec.{eqb}
 use lib.ListN.{length, getD}
-use borrow.Author.Tests.{eq-eqb, eqb-true, ne-eqb}
 use Rattle.laws.specs.Keep.{keep-from, map-on}
 use Rattle.laws.specs.Search.{keep, run}
 use Rattle.laws.specs.Sort.{sort, sort-map, sort-map-of}
-use Rattle.laws.specs.Tests.{_⇔_, and-left}
 use Rattle.record.specs.Codes.{kindLot}
 use Rattle.record.specs.declared.row.Row.{Row}
-use Rattle.rules.specs.Meaning.{means-lot}
 use Rattle.rules.specs.Ranges.{priceMost, sharesMost}
-use Rattle.rules.specs.Rules.{as-kind}
 use Rattle.model.specs.Flags.{lifo}
 use Rattle.model.specs.Lots.{before, closes, closings, lotsFor, start, step, taken, walk}
 use Rattle.model.specs.Lots
-use Rattle.model.specs.Money.{buys}
 use Rattle.model.specs.Names.{aLot}
-use Rattle.model.specs.Rows.{found, hasKey, is}
-use Rattle.model.specs.Sound.{lotOf, s1, s2, short}
+use Rattle.model.specs.Rows.{found}
+use Rattle.model.specs.Sound.{s1, s2}
+use Rattle.facts.specs.Lots.{closes-lot, closings-next, closings-none, Within, step-within, valueMost}
+use Rattle.facts.specs.Most.{lot-price}
+use Rattle.facts.specs.Found.{found-again}
 use Rattle.queue.specs.Queue.{Mark, ordered, queueMost, queued, sooner}
-use Rattle.tables.specs.Found.{found-again, the-most}
-use Rattle.tables.specs.Names.{by-id}
 use Rattle.lots.specs.declared.walk.Walk.{Walk}
-use Rattle.lots.specs.Walk.{Within, made, seen, step-within, valueMost}
+use Rattle.lots.specs.Walk.{made, seen}
 
 abbrev pub mark : Row → Mark
 mark l = (l .time, l .id)
@@ -82,12 +77,6 @@ map-same : (l : List Row) → map (λ (r : Row). r) l ≡ l
 map-same [] = refl
 map-same (x ∷ l) = rw (map-same l)
 
-pub closes-lot : (form account symbol : ℕ) (l : Row) → closes form account symbol l ≡ true → is kindLot l ≡ true
-closes-lot form account symbol l e =
-    and-left (is kindLot l) (eqb (l .party) account)
-    (and-left (is kindLot l && eqb (l .party) account) (eqb (l .symbol) symbol)
-    (and-left (lotOf account symbol l) (buys form ⇔ short l) e))
-
 module _ (rs : List Row) (unique : s2 rs ≡ true) (t : Row) where
   abbrev again : Row → Row
   again l = found (aLot (l .id)) rs
@@ -105,17 +94,6 @@ module _ (rs : List Row) (unique : s2 rs ≡ true) (t : Row) where
       let ks = closedBy rs t in
       sort-map-of again o o ks (λ a b m n. ap₂ o (sym (a-lot a m)) (sym (a-lot b n)))
       ∙ ap (sort o) (map-on again (λ r. r) ks a-lot ∙ map-same ks)
-
--- the price of a lot is in its range, and so is that of none
-pub lot-price : (rs : List Row) (i : ℕ) {r : Row} → s1 rs ≡ true → r ≡ found (aLot i) rs → r .n1 ≤ priceMost
-unfolding found
-lot-price rs i e q =
-    rw q (the-most (hasKey (aLot i)) (λ (r : Row). r .n1) priceMost rs e
-    (λ r f h.
-    let own = and-left (is kindLot r) (eqb (r .id) i) (sym (by-id kindLot refl i r) ∙ h) in
-    let k = eqb-true (r .kind) kindLot own in
-    means-lot r .shows (as-kind kindLot r k ∙ f) .0 .0 .0 .2 .2 .2 .2 .2 .2 .2 .1)
-    (omega arith))
 
 -- ---- a walk over the lots of the first n numbers has come to w, from the lots of all n₀ and w₀
 pub record Walking (form price : ℕ) (rs : List Row) (ids : List ℕ) (n₀ : ℕ) (w₀ : Walk) (n : ℕ) (w : Walk)
@@ -196,16 +174,6 @@ pub record Counting (rs : List Row) (ids : List ℕ) (n₀ need₀ n need many :
 
 pub count-start : (rs : List Row) (ids : List ℕ) (n need : ℕ) → n ≤ queueMost → Counting rs ids n need n need 0
 count-start rs ids n need h = record { same = omega arith; few = omega arith }
-
-pub closings-next : (need : ℕ) (l : Row) (ls : List Row) → (need ≡ 0 → ⊥)
-    → closings need (l ∷ ls) ≡ record { lot = l; shares = taken need l } ∷ closings (need - taken need l) ls
-unfolding closings
-closings-next need l ls h = rw (ne-eqb need 0 h)
-
-pub closings-none : (need : ℕ) (ls : List Row) → need ≡ 0 → closings need ls ≡ []
-unfolding closings
-closings-none need [] h = refl
-closings-none need (l ∷ ls) h = rw (eq-eqb need 0 h)
 
 module _ {rs : List Row} {ids : List ℕ} {n₀ need₀ n need many : ℕ} (s : Counting rs ids n₀ need₀ n need many) where
   pub count-more : {r : Row} {need′ : ℕ} → 0 < n → (need ≡ 0 → ⊥) → r ≡ found (aLot (getD ids (n - 1) 0)) rs

@@ -1,9 +1,7 @@
--- The walk as the code has it: its values are never below zero, and with what is still needed at the highest price they
--- stay below a bound. Assumes nothing.
+-- The walk as the code has it: its values are never below zero and stay in their ranges. Assumes nothing.
 use mathlib.Core.Path.{_≡_, refl, sym, _∙_}
 use mathlib.Core.Bool.{Bool, true, false, cond}
 use Prim.Native.Nat.{ℕ, _+_, _*_, _≤_}
-use native.Mathlib.Nat.{mul-le-mul-left}
 use native.Mathlib.Omega.{arith}
 use lib.Dec.{leb}
 use lib.IntN.{ℤ, pos, negsuc, natAbs}
@@ -19,8 +17,8 @@ use Rattle.kinds.specs.declared.units.Price.{Price}
 use Rattle.kinds.specs.declared.units.Shares.{Shares}
 use Rattle.rules.specs.Ranges.{moneyMost, priceMost, sharesMost}
 use Rattle.model.specs.Lots
-use Rattle.model.specs.Money.{buys}
 use Rattle.model.specs.Sound.{short}
+use Rattle.facts.specs.Lots.{Within, valueMost, worth}
 use Rattle.tables.specs.Sums.{side}
 use Rattle.lots.specs.declared.walk.Walk.{Walk}
 
@@ -52,10 +50,6 @@ size-side l {t} e h = h ∙ go t (sym e)
     go true q = dn-below (toZ w64 (l .m1)) q
     go false q = sym (up-above (toZ w64 (l .m1)) q)
 
--- the most that a walk can hold
-abbrev pub valueMost : ℕ
-valueMost = sharesMost * priceMost
-
 -- the plain numbers of the code's walk, and the code's walk of plain numbers
 abbrev pub seen : Walk → Lots.Walk
 seen w = record {
@@ -71,10 +65,6 @@ made w = record {
   sold = cents (pos (w .sold));
 }
 
--- the values, with all that is still needed at the highest price, are at most v
-abbrev pub Within : ℕ → Lots.Walk → Type 0
-Within v w = (w .bought + w .need * priceMost ≤ v) × (w .sold + w .need * priceMost ≤ v)
-
 pub sold-most : (w : Walk) (n : ℕ) → n ≤ sharesMost → Within (n * priceMost) (seen w) → up (w .sold .0) ≤ valueMost
 sold-most w n h k = let l = k .1 in omega arith
 
@@ -83,24 +73,9 @@ pub step-part : (w : Lots.Walk) (l : Row) {t : Shares} → Within valueMost w �
     → (up (t .0) ≤ w .need) × (w .need ≤ sharesMost)
 step-part w l h e = let a = h .0 in (rw e (omega arith), omega arith)
 
--- at one of two prices they are worth at most what they were at the highest
-worth : (t : Bool) (k a b : ℕ) → a ≤ priceMost → b ≤ priceMost → k * cond t a b ≤ k * priceMost
-worth true k a b p q = mul-le-mul-left k p
-worth false k a b p q = mul-le-mul-left k q
-
 pub step-fits : (x : Bool) (v n a b : ℕ) (l : Row) {t : Shares} {e : Price} → t ≡ shares (pos (Lots.taken n l))
     → e .0 ≡ cond x a b → a ≤ priceMost → b ≤ priceMost → v + n * priceMost ≤ valueMost
     → v + up (t .0) * e .0 ≤ moneyMost
 step-fits x v n a b l d e p q h =
     let k = worth x (Lots.taken n l) a b p q in
     rw (d, e) (omega arith)
-
-pub step-within : (v form price : ℕ) (w : Lots.Walk) (l : Row) → price ≤ priceMost → l .n1 ≤ priceMost → Within v w
-    → Within v (Lots.step form price w l)
-step-within v form price w l p q h =
-    let k = Lots.taken (w .need) l in
-    let b = worth (buys form) k price (l .n1) p q in
-    let s = worth (buys form) k (l .n1) price q p in
-    let x = h .0 in
-    let y = h .1 in
-    (omega arith, omega arith)

@@ -7,7 +7,7 @@ ghost use Rattle.record.specs.Signed.{up};
 ghost use Rattle.kinds.specs.Units.{cents};
 ghost use Rattle.rules.specs.Ranges.{commissionPart, fee, priceMost, sharesMost, taxPart};
 ghost use Rattle.model.specs.Money.{commissionOf, taxOf, taxable, untaxed};
-ghost use Rattle.lots.specs.Walk.{valueMost};
+ghost use Rattle.facts.specs.Lots.{valueMost};
 use crate::units;
 use kinds::limits::Ranges;
 use kinds::units::Cents;

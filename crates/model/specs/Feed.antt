@@ -11,11 +11,12 @@ use lib.ListN.{length}
 use Rattle.laws.specs.Search.{every, keep, run}
 use Rattle.laws.specs.Change.{put}
 use Rattle.laws.specs.Sort.{sort}
-use Rattle.record.specs.Codes.{kindFeed, kindRequest, kindTradeHistory, pending, submitted, tlb, tls, tsl}
+use Rattle.record.specs.Codes.{kindFeed, kindRequest, pending, submitted, tlb, tls, tsl}
 use Rattle.record.specs.declared.row.Row.{Row}
-use Rattle.rules.specs.Ranges.{id, kind, m1, n1, n2, status, volume, when}
+use Rattle.rules.specs.Ranges.{kind, m1, n1, n2, status, volume, when}
 use Rattle.model.specs.declared.Status.the-variants.{FeedNoSecurity}
 use Rattle.model.specs.Edit.{_≔_, changed, new}
+use Rattle.model.specs.History.{historyRow}
 use Rattle.model.specs.Names.{aSecurity, aTrade}
 use Rattle.model.specs.Plan.{Outcome, accepted, limited, pick, refused}
 use Rattle.model.specs.Rows.{found, is, nothing, sameRow, there}
@@ -39,11 +40,13 @@ unfoldable pub submits : List Row → Row → List Row
 submits rs e = sort lower (keep (triggered rs e) rs)
 
 -- a trade is submitted: its history row takes the lowest free place
+abbrev pub sent : ℕ → Row → Row
+sent time t = changed t (status ≔ submitted ∷ when ≔ time ∷ [])
+
 abbrev pub submit : Row → List Row → Row → List Row
 submit e rs r =
     let t = found (aTrade (r .id)) rs in
-    let h = new (kind ≔ kindTradeHistory ∷ status ≔ submitted ∷ id ≔ r .id ∷ when ≔ e .time ∷ []) in
-    put sameRow t (changed t (status ≔ submitted ∷ when ≔ e .time ∷ [])) (put sameRow nothing h rs)
+    put sameRow t (sent (e .time) t) (put sameRow nothing (historyRow submitted (r .id) (e .time)) rs)
 
 abbrev pub traded : Row → Row → Row
 traded e s = changed s (n1 ≔ e .n1 ∷ m1 ≔ (s .m1 + e .n2) ∷ when ≔ e .time ∷ [])

@@ -9,6 +9,7 @@ pub mod Money
 pub mod Lots
 pub mod Band
 pub mod Edit
+pub mod History
 pub mod Plan
 pub mod Result
 pub mod Order

@@ -5,7 +5,7 @@ use mathlib.Core.List.{List, [], _∷_}
 use Prim.Native.Nat.{ℕ, _+_, _%_}
 use lib.Dec.{leb}
 use Rattle.laws.specs.Search.{largest}
-use Rattle.record.specs.Codes.{kindFree, kindOrder, kindRequest, kindTrade, kindTradeHistory, pending, submitted, tms}
+use Rattle.record.specs.Codes.{kindFree, kindOrder, kindRequest, kindTrade, pending, submitted, tms}
 use Rattle.record.specs.declared.row.Row.{Row}
 use Rattle.rules.specs.Ranges.{flags, form, id, kind, m1, m2, n1, n2, n3, n4, party, status, symbol, tradeNumber, when}
 use Rattle.model.specs.declared.Status.the-variants.{OrderNoAccount, OrderNoCharge, OrderNoRate}
@@ -13,6 +13,7 @@ use Rattle.model.specs.declared.Status.the-variants.{OrderNoSecurity, Or
 use Rattle.model.specs.Band.{bandRate}
 use Rattle.model.specs.Edit.{_≔_, inSymbol, new}
 use Rattle.model.specs.Flags.{rollBack}
+use Rattle.model.specs.History.{historyRow}
 use Rattle.model.specs.Lots.{Walk, lotsFor, walk}
 use Rattle.model.specs.Money.{commissionOf, taxOf, untaxed}
 use Rattle.model.specs.Names.{aCharge, aCustomer, aSecurity, anAccount}
@@ -69,33 +70,44 @@ abbrev pub taxed : Row → View → ℕ
 taxed input v = taxOf (v .account .form) (v .rates) (walked input v .bought) (walked input v .sold)
 
 -- "It adds a trade .., with n2 the price used, the charge, the estimated commission and tax zero"
-abbrev tradeAdded : Row → View → Row
-tradeAdded input v =
+abbrev pub tradeRow : Row → ℕ → ℕ → ℕ → ℕ → Row
+tradeRow input number price charge commission =
     new (
     kind ≔ kindTrade ∷ form ≔ input .form ∷ status ≔ firstStatus input ∷ flags ≔ (input .flags % 4)
-    ∷ party ≔ input .party ∷ id ≔ v .number ∷ symbol ≔ input .symbol ∷ n1 ≔ input .n1 ∷ n2 ≔ priceUsed input v
-    ∷ n4 ≔ v .charge ∷ m1 ≔ commissionOf (v .rate) (input .n1) (priceUsed input v) ∷ when ≔ input .time ∷ [])
+    ∷ party ≔ input .party ∷ id ≔ number ∷ symbol ≔ input .symbol ∷ n1 ≔ input .n1 ∷ n2 ≔ price ∷ n4 ≔ charge
+    ∷ m1 ≔ commission ∷ when ≔ input .time ∷ [])
 
-abbrev historyAdded : Row → View → Row
-historyAdded input v =
-    new (kind ≔ kindTradeHistory ∷ status ≔ firstStatus input ∷ id ≔ v .number ∷ when ≔ input .time ∷ [])
-
-abbrev requestAdded : Row → View → Row
-requestAdded input v =
+abbrev pub requestRow : Row → ℕ → ℕ → ℕ → Row
+requestRow input broker number price =
     new (
-    kind ≔ kindRequest ∷ form ≔ input .form ∷ party ≔ v .account .n1 ∷ id ≔ v .number ∷ symbol ≔ input .symbol
-    ∷ n1 ≔ input .n1 ∷ n2 ≔ priceUsed input v ∷ [])
+    kind ≔ kindRequest ∷ form ≔ input .form ∷ party ≔ broker ∷ id ≔ number ∷ symbol ≔ input .symbol ∷ n1 ≔ input .n1
+    ∷ n2 ≔ price ∷ [])
+
+-- a trade and its history; a request, where the order is not one at the market's price
+abbrev pub addedRows : Row → ℕ → ℕ → ℕ → ℕ → ℕ → List Row
+addedRows input broker number price charge commission =
+    tradeRow input number price charge commission
+    ∷ historyRow (firstStatus input) number (input .time)
+    ∷ cond (atMarket input) [] (requestRow input broker number price ∷ [])
+
+abbrev pub answerRow : ℕ → ℕ → ℕ → ℕ → ℕ → ℕ → ℕ → Row
+answerRow number tax charge rate price bought sold =
+    new (
+    kind ≔ kindOrder ∷ id ≔ number ∷ symbol ≔ inSymbol tax ∷ n1 ≔ charge ∷ n2 ≔ rate ∷ n3 ≔ price ∷ m1 ≔ bought
+    ∷ m2 ≔ sold ∷ [])
 
 unfoldable pub posting : Row → View → Posting
-posting input v = record {
-  changes = [];
-  freed = [];
-  added = tradeAdded input v ∷ historyAdded input v ∷ cond (atMarket input) [] (requestAdded input v ∷ []);
-  answer =
-      new (
-      kind ≔ kindOrder ∷ id ≔ v .number ∷ symbol ≔ inSymbol (taxed input v) ∷ n1 ≔ v .charge ∷ n2 ≔ v .rate
-      ∷ n3 ≔ priceUsed input v ∷ m1 ≔ walked input v .bought ∷ m2 ≔ walked input v .sold ∷ []);
-}
+posting input v =
+    let price = priceUsed input v in
+    record {
+      changes = [];
+      freed = [];
+      added =
+          addedRows input (v .account .n1) (v .number) price (v .charge) (commissionOf (v .rate) (input .n1) price);
+      answer =
+          answerRow (v .number) (taxed input v) (v .charge) (v .rate) price (walked input v .bought)
+          (walked input v .sold);
+    }
 
 unfoldable pub plan : Row → View → Plan
 plan input v =

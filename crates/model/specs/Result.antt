@@ -8,13 +8,14 @@ use mir.Syntax.{w64}
 use mir.Val.{toZ}
 use Rattle.laws.specs.Search.{keep}
 use Rattle.record.specs.Codes.{completed, kindCash, kindFree, kindLot, kindLotHistory, kindResult, kindSettlement}
-use Rattle.record.specs.Codes.{kindSummary, kindTradeHistory, submitted}
+use Rattle.record.specs.Codes.{kindSummary, submitted}
 use Rattle.record.specs.declared.row.Row.{Row}
 use Rattle.rules.specs.Ranges.{brokerTrades, commissionTotal, flags, id, kind, m1, m2, moneyMost, n1, n2, n3, party}
 use Rattle.rules.specs.Ranges.{status, symbol, when}
 use Rattle.model.specs.declared.Status.the-variants.{ResultNoRate, ResultNoTax, ResultNoTrade, ResultNotSubmitted}
 use Rattle.model.specs.Edit.{_≔_, bits32, bits64, changed, inSymbol, new}
 use Rattle.model.specs.Flags.{cash}
+use Rattle.model.specs.History.{historyRow}
 use Rattle.model.specs.Lots.{Closing, Walk, closings, lotsFor, size, walk}
 use Rattle.model.specs.Band.{bandRate}
 use Rattle.model.specs.Money.{buys, commissionOf, settlementOf, taxOf, untaxed}
@@ -83,90 +84,144 @@ signed form n = cond (buys form) (pos n) (negℤ (pos n))
 abbrev pub leftOf : ℕ → Closing → ℤ
 leftOf form c = negℤ (signed form (size (c .lot) - c .shares))
 
-abbrev reduced : Closing → Bool
+-- ---- the rows that a result writes, of the rows that it reads and the figures that it works out
+-- an account, a summary or a lot, with another signed number
+abbrev pub holding : Row → ℤ → Row
+holding r z = changed r (m1 ≔ bits64 z ∷ [])
+
+abbrev pub lotHistory : ℕ → ℕ → ℤ → ℤ → Row
+lotHistory lot trade old left =
+    new (kind ≔ kindLotHistory ∷ id ≔ lot ∷ m2 ≔ trade ∷ n1 ≔ bits32 old ∷ n2 ≔ bits32 left ∷ [])
+
+-- the lots that are closed in part, and those that are closed whole
+abbrev pub reduced : Closing → Bool
 reduced c = ltb (c .shares) (size (c .lot))
 
-abbrev lotChange : ℕ → Closing → Row × Row
-lotChange form c = (c .lot, changed (c .lot) (m1 ≔ bits64 (leftOf form c) ∷ []))
+abbrev pub lotChanges : Row → List Closing → List (Row × Row)
+lotChanges t cs = map (λ (c : Closing). (c .lot, holding (c .lot) (leftOf (t .form) c))) (keep reduced cs)
 
-abbrev lotHistory : ℕ → ℕ → ℤ → ℤ → Row
-lotHistory lot trade old now =
-    new (kind ≔ kindLotHistory ∷ id ≔ lot ∷ m2 ≔ trade ∷ n1 ≔ bits32 old ∷ n2 ≔ bits32 now ∷ [])
+abbrev pub closedLots : List Closing → List Row
+closedLots cs = map (λ (c : Closing). c .lot) (keep (λ (c : Closing). not (reduced c)) cs)
 
-abbrev closingHistory : Row → Closing → Row
-closingHistory t c = lotHistory (c .lot .id) (t .id) (toZ w64 (c .lot .m1)) (leftOf (t .form) c)
+abbrev pub closingRows : Row → List Closing → List Row
+closingRows t cs =
+    map (λ (c : Closing). lotHistory (c .lot .id) (t .id) (toZ w64 (c .lot .m1)) (leftOf (t .form) c)) cs
 
 -- "Shares left over open a new lot with the trade's number, price and time .., with a history row from zero."
-abbrev opened : Row → Row → ℕ → List Row
-opened input t left =
+abbrev pub newLot : Row → ℕ → ℤ → ℕ → Row
+newLot t price count time =
+    new (
+    kind ≔ kindLot ∷ party ≔ t .party ∷ id ≔ t .id ∷ symbol ≔ t .symbol ∷ n1 ≔ price ∷ m1 ≔ bits64 count
+    ∷ when ≔ time ∷ [])
+
+abbrev pub openingRows : Row → ℕ → ℕ → ℕ → List Row
+openingRows t price left time =
     cond (eqb left 0) []
     (lotHistory (t .id) (t .id) (pos 0) (signed (t .form) left)
-    ∷ new (
-    kind ≔ kindLot ∷ party ≔ t .party ∷ id ≔ t .id ∷ symbol ≔ t .symbol ∷ n1 ≔ input .n1
-    ∷ m1 ≔ bits64 (signed (t .form) left) ∷ when ≔ input .time ∷ [])
+    ∷ newLot t price (signed (t .form) left) time
     ∷ [])
 
 -- "The summary follows; at zero it goes." In its place where there is one, added where none is.
-abbrev summed : View → ℤ
-summed v = toZ w64 (v .summary .m1) +ℤ signed (v .trade .form) (v .trade .n1)
+abbrev pub summedShares : Row → Row → ℤ
+summedShares t summary = toZ w64 (summary .m1) +ℤ signed (t .form) (t .n1)
 
-abbrev gone : ℤ → Bool
+abbrev pub gone : ℤ → Bool
 gone z = eqb (natAbs z) 0
 
-abbrev held : View → Bool
-held v = not (is kindFree (v .summary))
+abbrev pub summaryChanges : Row → Row → List (Row × Row)
+summaryChanges t summary =
+    let z = summedShares t summary in
+    cond (not (is kindFree summary) && not (gone z)) ((summary, holding summary z) ∷ []) []
 
-abbrev summaryChange : View → List (Row × Row)
-summaryChange v =
-    cond (held v && not (gone (summed v))) ((v .summary, changed (v .summary) (m1 ≔ bits64 (summed v) ∷ [])) ∷ []) []
+abbrev pub summaryGone : Row → Row → List Row
+summaryGone t summary = cond (not (is kindFree summary) && gone (summedShares t summary)) (summary ∷ []) []
 
-abbrev summaryFreed : View → List Row
-summaryFreed v = cond (held v && gone (summed v)) (v .summary ∷ []) []
+abbrev pub newSummary : Row → ℤ → Row
+newSummary t count =
+    new (kind ≔ kindSummary ∷ party ≔ t .party ∷ symbol ≔ t .symbol ∷ m1 ≔ bits64 count ∷ [])
 
-abbrev summaryAdded : View → List Row
-summaryAdded v =
-    cond (held v) []
-    (new (
-    kind ≔ kindSummary ∷ party ≔ v .trade .party ∷ symbol ≔ v .trade .symbol ∷ m1 ≔ bits64 (summed v) ∷ [])
-    ∷ [])
+abbrev pub summaryRows : Row → Row → List Row
+summaryRows t summary = cond (not (is kindFree summary)) [] (newSummary t (summedShares t summary) ∷ [])
 
 -- "A cash trade adds the amount to the balance."
-abbrev accountChange : View → Figures → List (Row × Row)
-accountChange v f =
-    cond (cash (v .trade .flags)) ((v .account, changed (v .account) (m1 ≔ bits64 (f .balance) ∷ [])) ∷ []) []
+abbrev pub accountChanges : Row → Row → ℤ → List (Row × Row)
+accountChanges t account balance = cond (cash (t .flags)) ((account, holding account balance) ∷ []) []
 
 -- "The trade takes status 3, price, commission, tax and time"
-abbrev tradeAfter : Row → Row → Figures → Row
-tradeAfter input t f =
-    changed t
-    (status ≔ completed ∷ n3 ≔ input .n1 ∷ m1 ≔ f .commission ∷ m2 ≔ f .tax ∷ when ≔ input .time ∷ [])
+abbrev pub tradeAfter : Row → ℕ → ℕ → ℕ → ℕ → Row
+tradeAfter t price commission tax time =
+    changed t (status ≔ completed ∷ n3 ≔ price ∷ m1 ≔ commission ∷ m2 ≔ tax ∷ when ≔ time ∷ [])
 
 -- trade history, settlement, and cash for a cash trade
-abbrev finalRows : Row → Row → Figures → List Row
-finalRows input t f =
-    new (kind ≔ kindTradeHistory ∷ status ≔ completed ∷ id ≔ t .id ∷ when ≔ input .time ∷ [])
-    ∷ new (
-    kind ≔ kindSettlement ∷ flags ≔ cond (cash (t .flags)) 1 0 ∷ id ≔ t .id ∷ m1 ≔ bits64 (f .settlement)
-    ∷ when ≔ (input .time + settlementSeconds) ∷ [])
-    ∷ cond (cash (t .flags))
-    (new (kind ≔ kindCash ∷ id ≔ t .id ∷ m1 ≔ bits64 (f .settlement) ∷ when ≔ input .time ∷ []) ∷ [])
-    []
+abbrev pub settlementRow : Row → ℤ → ℕ → Row
+settlementRow t amount time =
+    new (
+    kind ≔ kindSettlement ∷ flags ≔ cond (cash (t .flags)) 1 0 ∷ id ≔ t .id ∷ m1 ≔ bits64 amount
+    ∷ when ≔ (time + settlementSeconds) ∷ [])
+
+abbrev pub cashRow : Row → ℤ → ℕ → Row
+cashRow t amount time = new (kind ≔ kindCash ∷ id ≔ t .id ∷ m1 ≔ bits64 amount ∷ when ≔ time ∷ [])
+
+abbrev pub finalRows : Row → ℤ → ℕ → List Row
+finalRows t amount time =
+    historyRow completed (t .id) time
+    ∷ settlementRow t amount time
+    ∷ cond (cash (t .flags)) (cashRow t amount time ∷ []) []
+
+-- "the broker gains one trade and the commission"
+abbrev pub brokerAfter : Row → ℕ → Row
+brokerAfter b commission = changed b (n1 ≔ (b .n1 + 1) ∷ m1 ≔ (b .m1 + commission) ∷ [])
+
+abbrev pub answerRow : Row → ℕ → ℤ → ℤ → Row
+answerRow t tax balance settlement =
+    new (
+    kind ≔ kindResult ∷ party ≔ t .party ∷ id ≔ t .id ∷ symbol ≔ inSymbol tax ∷ m1 ≔ bits64 balance
+    ∷ m2 ≔ bits64 settlement ∷ [])
+
+-- ---- all of them together: the numbers that are written, and the rows that are added and changed
+pub record Sums : Type 0 where
+  pub price : ℕ
+  pub left : ℕ
+  pub time : ℕ
+  pub commission : ℕ
+  pub tax : ℕ
+  pub amount : ℤ
+  pub balance : ℤ
+
+abbrev pub sumsOf : Row → Figures → Sums
+sumsOf input f = record {
+  price = input .n1;
+  left = f .walked .need;
+  time = input .time;
+  commission = f .commission;
+  tax = f .tax;
+  amount = f .settlement;
+  balance = f .balance;
+}
+
+abbrev pub added : Row → Row → List Closing → Sums → List Row
+added t summary cs n =
+    closingRows t cs ++ openingRows t (n .price) (n .left) (n .time) ++ summaryRows t summary
+    ++ finalRows t (n .amount) (n .time)
+
+abbrev pub tradeWrite : Row → Sums → Row × Row
+tradeWrite t n = (t, tradeAfter t (n .price) (n .commission) (n .tax) (n .time))
+
+abbrev pub brokerWrite : Row → Sums → Row × Row
+brokerWrite broker n = (broker, brokerAfter broker (n .commission))
 
 unfoldable pub posting : Row → View → Figures → Posting
 posting input v f =
     let t = v .trade in
     let cs = closings (t .n1) (v .lots) in
+    let n = sumsOf input f in
     record {
       changes =
-          map (lotChange (t .form)) (keep reduced cs) ++ summaryChange v
-          ++ accountChange v f ++ (t, tradeAfter input t f) ∷ [];
-      freed = map (λ (c : Closing). c .lot) (keep (λ (c : Closing). not (reduced c)) cs) ++ summaryFreed v;
-      added =
-          map (closingHistory t) cs ++ opened input t (f .walked .need) ++ summaryAdded v ++ finalRows input t f;
-      answer =
-          new (
-          kind ≔ kindResult ∷ party ≔ t .party ∷ id ≔ t .id ∷ symbol ≔ inSymbol (f .tax) ∷ m1 ≔ bits64 (f .balance)
-          ∷ m2 ≔ bits64 (f .settlement) ∷ []);
+          lotChanges t cs ++ summaryChanges t (v .summary) ++ accountChanges t (v .account) (n .balance)
+          ++ tradeWrite t n ∷ [];
+      freed = closedLots cs ++ summaryGone t (v .summary);
+      added = added t (v .summary) cs n;
+      answer = answerRow t (f .tax) (f .balance) (f .settlement);
     }
 
 unfoldable pub plan : Row → View → Plan
@@ -180,12 +235,8 @@ plan input v =
     ∷ [])
     (posting input v f)
 
--- "the broker gains one trade and the commission"
-abbrev pub brokerAfter : Row → ℕ → Row
-brokerAfter b commission = changed b (n1 ≔ (b .n1 + 1) ∷ m1 ≔ (b .m1 + commission) ∷ [])
-
 -- "balance, broker's trades or commission total .. would leave its range"
-abbrev within : Row → Figures → Bool
+abbrev pub within : Row → Figures → Bool
 within b f =
     leb (natAbs (f .balance)) moneyMost && leb (b .n1 + 1) (brokerTrades .high)
     && leb (b .m1 + f .commission) (commissionTotal .high)

@@ -7,16 +7,17 @@ use lib.IntN.{ℤ, pos, negℤ}
 use lib.ListN.{replicate}
 use Rattle.laws.specs.Search.{keep}
 use Rattle.record.specs.Codes.{completed, kindAccount, kindBand, kindBroker, kindCharge, kindCustomer}
-use Rattle.record.specs.Codes.{kindCustomerRate, kindFeed, kindLot, kindLookup, kindOrder, kindRequest, kindResult}
-use Rattle.record.specs.Codes.{kindSecurity, kindSettlement, kindSummary, kindTaxRate, kindTrade, kindTradeHistory}
-use Rattle.record.specs.Codes.{pending, submitted, tlb, tmb, tms}
+use Rattle.record.specs.Codes.{kindCustomerRate, kindFeed, kindLookup, kindLot, kindOrder, kindRequest, kindResult}
+use Rattle.record.specs.Codes.{kindSecurity, kindSettlement, kindSummary, kindTaxRate, kindTrade, pending, submitted}
+use Rattle.record.specs.Codes.{tlb, tmb, tms}
 use Rattle.record.specs.declared.row.Row.{Row}
-use Rattle.rules.specs.Ranges.{flags, form, id, kind, m1, n1, n2, n3, n4, party, status, symbol, tradeNumber, volume}
-use Rattle.rules.specs.Ranges.{brokerTrades, when}
+use Rattle.rules.specs.Ranges.{brokerTrades, flags, form, id, kind, m1, n1, n2, n3, n4, party, status, symbol}
+use Rattle.rules.specs.Ranges.{tradeNumber, volume, when}
 use Rattle.model.specs.Edit.{_≔_, bits64, changed, new}
 use Rattle.model.specs.Money.{buys}
 use Rattle.model.specs.Result.{settlementSeconds}
 use Rattle.model.specs.Rows.{nothing}
+use Rattle.model.specs.History.{historyRow}
 
 -- "ABC", "ABCDEFG" and the eight letters "ABCDEFGH", each as its bytes
 abbrev pub abc : ℕ
@@ -51,7 +52,7 @@ done number type shares left price time =
     kind ≔ kindTrade ∷ form ≔ type ∷ status ≔ completed ∷ party ≔ 1 ∷ id ≔ number ∷ symbol ≔ abc ∷ n1 ≔ shares
     ∷ n2 ≔ price
     ∷ n3 ≔ price ∷ when ≔ time ∷ [])
-    ∷ new (kind ≔ kindTradeHistory ∷ status ≔ completed ∷ id ≔ number ∷ when ≔ time ∷ [])
+    ∷ historyRow completed number time
     ∷ new (kind ≔ kindSettlement ∷ id ≔ number
     ∷ m1 ≔ bits64 (cond (buys type) (negℤ (pos (shares * price))) (pos (shares * price)))
     ∷ when ≔ (time + settlementSeconds) ∷ [])
@@ -69,7 +70,7 @@ awaiting type flag shares =
     kind ≔ kindTrade ∷ form ≔ type ∷ status ≔ submitted ∷ flags ≔ flag ∷ party ≔ 1 ∷ id ≔ 12 ∷ symbol ≔ abc
     ∷ n1 ≔ shares
     ∷ n2 ≔ 3_000 ∷ n4 ≔ 500 ∷ when ≔ 300 ∷ [])
-    ∷ new (kind ≔ kindTradeHistory ∷ status ≔ submitted ∷ id ≔ 12 ∷ when ≔ 300 ∷ [])
+    ∷ historyRow submitted 12 300
     ∷ []
 
 -- lots of trade 10, 100 at 2,000, and of trade 11, 50 at 2,500; trade 12 sells for cash; so many places free
@@ -96,7 +97,7 @@ requested =
     kind ≔ kindTrade ∷ form ≔ tlb ∷ status ≔ pending ∷ party ≔ 1 ∷ id ≔ 20 ∷ symbol ≔ abc ∷ n1 ≔ 5 ∷ n2 ≔ 500
     ∷ when ≔ 50
     ∷ [])
-    ∷ new (kind ≔ kindTradeHistory ∷ status ≔ pending ∷ id ≔ 20 ∷ when ≔ 50 ∷ [])
+    ∷ historyRow pending 20 50
     ∷ new (kind ≔ kindRequest ∷ form ≔ tlb ∷ party ≔ 1 ∷ id ≔ 20 ∷ symbol ≔ abc ∷ n1 ≔ 5 ∷ n2 ≔ 500 ∷ [])
     ∷ []
 
@@ -144,7 +145,7 @@ lastNumber =
     kind ≔ kindTrade ∷ form ≔ tlb ∷ status ≔ pending ∷ party ≔ 1 ∷ id ≔ tradeNumber .high ∷ symbol ≔ abc ∷ n1 ≔ 5
     ∷ n2 ≔ 400
     ∷ [])
-    ∷ new (kind ≔ kindTradeHistory ∷ status ≔ pending ∷ id ≔ tradeNumber .high ∷ [])
+    ∷ historyRow pending (tradeNumber .high) 0
     ∷ new (
     kind ≔ kindRequest ∷ form ≔ tlb ∷ party ≔ 1 ∷ id ≔ tradeNumber .high ∷ symbol ≔ abc ∷ n1 ≔ 5
     ∷ n2 ≔ 400 ∷ [])

@@ -23,14 +23,14 @@ use Rattle.model.specs.Names.{aCustomer, aSecurity, anAccount}
 use Rattle.model.specs.Order.{View, atMarket, priceUsed, taxed, view, walked}
 use Rattle.model.specs.Rows.{found}
 use Rattle.model.specs.Sound.{sound}
-use Rattle.tables.specs.Found.{sound-s1}
+use Rattle.facts.specs.Found.{sound-s1}
+use Rattle.facts.specs.Most.{rate-most, rates-most, price-most}
 use Rattle.lots.specs.Lots.{lotsOf}
-use Rattle.lots.specs.Terms.{perTenThousand, priceOf, rate-most, rates-most}
+use Rattle.lots.specs.Terms.{perTenThousand, priceOf}
 use Rattle.lots.specs.Walk.{made}
 use Rattle.lots.specs.declared.walk.Walk.{Walk}
 use Rattle.order.specs.declared.estimate.Estimate.{Estimate}
 use Rattle.order.specs.declared.estimate.Terms.{Terms}
-use Rattle.order.specs.Bounds.{price-most}
 
 abbrev pub tradeNo : ℕ → TradeNo
 tradeNo x = record { 0 = x }

@@ -8,6 +8,7 @@ use lib.Dec.{eqb, leb}
 use lib.ListN.{length}
 use borrow.Author.Tests.{eq-eqb, le-leb, lt-leb, ne-eqb}
 use Rattle.laws.specs.Change.{fill, puts, written}
+use Rattle.laws.specs.Tests.{some}
 use Rattle.record.specs.Codes.{kindFree, tms}
 use Rattle.record.specs.declared.row.Row.{Row}
 use Rattle.rules.specs.Ranges.{tradeNumber}
@@ -19,7 +20,6 @@ use Rattle.model.specs.Flags.{rollBack}
 use Rattle.model.specs.Order.{View, atMarket, finish, order, plan, posting, view}
 use Rattle.model.specs.Plan.{Outcome, accepted, checked, finished, limited, pick, post, posted, refuse, refused, room}
 use Rattle.model.specs.Rows.{is, nothing, sameRow}
-use Rattle.lots.specs.Terms.{some}
 use Rattle.order.specs.declared.estimate.Estimate.{Estimate}
 use Rattle.order.specs.declared.estimate.Terms.{Terms}
 use Rattle.order.specs.Estimate.{estimateSeen, estimated, termsOf, termsSeen}

@@ -1,4 +1,3 @@
-pub mod Bounds
 pub mod Estimate
 pub mod Judge
 pub mod Post

@@ -2,53 +2,22 @@
 use mathlib.Core.Path.{_≡_, refl, sym, subst, _∙_}
 use mathlib.Core.Bool.{Bool, true, false, cond}
 use mathlib.Core.List.{List, [], _∷_}
-use Prim.Native.Nat.{ℕ, _%_, _≤_, _<_}
+use Prim.Native.Nat.{ℕ, _≤_, _<_}
 use lib.Dec.{leb}
 use lib.ListN.{set}
 use borrow.Author.Tests.{le-leb, lt-leb}
 use Rattle.laws.specs.Change.{fill}
-use Rattle.record.specs.Codes.{kindOrder, kindRequest, kindTrade, kindTradeHistory, tms}
+use Rattle.record.specs.Codes.{tms}
 use Rattle.record.specs.Signed.{up}
 use Rattle.record.specs.declared.row.Row.{Row}
-use Rattle.rules.specs.Ranges.{flags, form, id, kind, m1, m2, n1, n2, n3, n4, party, status, symbol, when}
-use Rattle.model.specs.Edit.{_≔_, inSymbol, new}
 use Rattle.model.specs.Flags.{rollBack}
-use Rattle.model.specs.Order.{firstStatus}
+use Rattle.model.specs.Order.{addedRows, answerRow, requestRow, tradeRow}
 use Rattle.model.specs.Rows.{nothing, rows, sameRow}
+use Rattle.model.specs.History.{historyRow}
 use Rattle.shelf.specs.Put.{Adding, Free, add-done, add-next, add-start}
 use Rattle.shelf.specs.Rows.{after, freeFrom}
 use Rattle.order.specs.declared.estimate.Estimate.{Estimate}
 use Rattle.order.specs.declared.estimate.Terms.{Terms}
-
-abbrev pub tradeRow : Row → ℕ → ℕ → ℕ → ℕ → Row
-tradeRow input number price charge commission =
-    new (
-    kind ≔ kindTrade ∷ form ≔ input .form ∷ status ≔ firstStatus input ∷ flags ≔ (input .flags % 4)
-    ∷ party ≔ input .party ∷ id ≔ number ∷ symbol ≔ input .symbol ∷ n1 ≔ input .n1 ∷ n2 ≔ price ∷ n4 ≔ charge
-    ∷ m1 ≔ commission ∷ when ≔ input .time ∷ [])
-
-abbrev pub historyRow : Row → ℕ → Row
-historyRow input number =
-    new (kind ≔ kindTradeHistory ∷ status ≔ firstStatus input ∷ id ≔ number ∷ when ≔ input .time ∷ [])
-
-abbrev pub requestRow : Row → ℕ → ℕ → ℕ → Row
-requestRow input broker number price =
-    new (
-    kind ≔ kindRequest ∷ form ≔ input .form ∷ party ≔ broker ∷ id ≔ number ∷ symbol ≔ input .symbol ∷ n1 ≔ input .n1
-    ∷ n2 ≔ price ∷ [])
-
--- a request waits where the order is not one at the market's price
-abbrev pub addedRows : Row → ℕ → ℕ → ℕ → ℕ → ℕ → List Row
-addedRows input broker number price charge commission =
-    tradeRow input number price charge commission
-    ∷ historyRow input number
-    ∷ cond (leb (input .form) tms) [] (requestRow input broker number price ∷ [])
-
-abbrev pub answerRow : ℕ → ℕ → ℕ → ℕ → ℕ → ℕ → ℕ → Row
-answerRow number tax charge rate price bought sold =
-    new (
-    kind ≔ kindOrder ∷ id ≔ number ∷ symbol ≔ inSymbol tax ∷ n1 ≔ charge ∷ n2 ≔ rate ∷ n3 ≔ price ∷ m1 ≔ bought
-    ∷ m2 ≔ sold ∷ [])
 
 -- ---- of the terms and the estimate
 abbrev pub tradeOf : Row → Terms → Estimate → Row
@@ -82,8 +51,7 @@ module _ (input : Row) (t : Terms) (e : Estimate) (b : List ℕ) {x : Bool} (r :
       (t-is : trade ≡ tradeOf input t e)
       (t-next : next ≡ after (rows b) (freeFrom (rows b) 0))
       (t-put : rows b₁ ≡ set (rows b) (freeFrom (rows b) 0) trade)
-      (h-is : past
-      ≡ new (kind ≔ kindTradeHistory ∷ status ≔ trade .status ∷ id ≔ trade .id ∷ when ≔ trade .time ∷ []))
+      (h-is : past ≡ historyRow (trade .status) (trade .id) (trade .time))
       (h-next : last ≡ after (rows b₁) (freeFrom (rows b₁) next))
       (h-put : rows b₂ ≡ set (rows b₁) (freeFrom (rows b₁) next) past) where
     abbrev all : List Row

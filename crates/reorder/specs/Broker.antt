@@ -17,11 +17,11 @@ use Rattle.model.specs.Call.{isDone}
 use Rattle.model.specs.Names.{aBroker}
 use Rattle.model.specs.Result.{brokerAfter, figures, posting, view}
 use Rattle.model.specs.Rows.{found, hasKey, is, nothing}
-use Rattle.tables.specs.Names.{by-party}
-use Rattle.kept.specs.Posted.{writes}
-use Rattle.reorder.specs.Agree.{only, the-total}
+use Rattle.facts.specs.Names.{by-party}
+use Rattle.facts.specs.Posted.{writes}
 use Rattle.kept.specs.Cases.{cond-no}
 use Rattle.kept.specs.Once.{key-once}
+use Rattle.reorder.specs.Agree.{only, the-total}
 use Rattle.reorder.specs.Inv.{Inv, broker-key, broker-kind, inv-step, itsBroker, sum-none, totals, turns}
 use Rattle.reorder.specs.Sim.{final, trace}
 use Rattle.reorder.specs.Step.{Done, Note, Refused, done-status, outcome, step, step-cases}

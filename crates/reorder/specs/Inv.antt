@@ -9,6 +9,8 @@ use native.Mathlib.Omega.{arith}
 use lib.ListN.{length}
 use Rattle.laws.specs.All.{All}
 use Rattle.laws.specs.Search.{bit, count, total}
+use Rattle.laws.specs.Puts.{news, olds}
+use Rattle.laws.specs.Total.{total-append, total-map, total-single, total-zero}
 use Rattle.record.specs.Codes.{kindBroker, kindFree, kindTrade}
 use Rattle.record.specs.Key.{keyOf, sameKey}
 use Rattle.record.specs.declared.row.Row.{Row}
@@ -21,16 +23,15 @@ use Rattle.model.specs.Result.{brokerAfter, figures, finish, plan, posting, res
 use Rattle.model.specs.Rows.{found, hasKey, is, mostRecords, nothing, sameRow}
 use Rattle.model.specs.Sound.{sound}
 use Rattle.model.specs.SoundMeans.{means-sound}
-use Rattle.shelf.specs.Put.{same-rows}
-use Rattle.result.specs.Apart.{found-kind, found-live, found-member, key-kind}
-use Rattle.kept.specs.Posted.{adds, frees, same-sums, writes}
-use Rattle.laws.specs.Puts.{news, olds}
-use Rattle.laws.specs.Total.{total-append, total-map, total-single, total-zero}
-use Rattle.reorder.specs.Agree.{Agree, the-total}
+use Rattle.facts.specs.Rows.{same-rows}
+use Rattle.facts.specs.Found.{found-kind, found-live, found-member}
+use Rattle.facts.specs.Keys.{key-kind}
+use Rattle.facts.specs.Posted.{adds, frees, same-sums, writes}
 use Rattle.kept.specs.Cases.{by-cases, no}
 use Rattle.kept.specs.Once.{key-once}
-use Rattle.reorder.specs.Step.{Done, Note, Refused, broker-has, done-live, done-sound, done-total, outcome, seen}
-use Rattle.reorder.specs.Step.{step, step-cases, step-length}
+use Rattle.reorder.specs.Agree.{Agree, the-total}
+use Rattle.reorder.specs.Step.{Done, Note, Refused, broker-has, done-live, done-sound, done-total, outcome}
+use Rattle.reorder.specs.Step.{seen, step, step-cases, step-length}
 use Rattle.reorder.specs.Whose.{mine, not-broker, not-free, not-other, whose}
 use Rattle.reorder.specs.Writes.{Its, Turn, all-turns, partyIf}
 

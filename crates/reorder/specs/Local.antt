@@ -9,6 +9,7 @@ use native.Mathlib.Omega.{arith}
 use lib.Dec.{leb}
 use lib.ListN.{length}
 use Rattle.laws.specs.Search.{bit, count, total}
+use Rattle.laws.specs.Puts.{news, olds}
 use Rattle.record.specs.Codes.{kindBroker}
 use Rattle.record.specs.declared.row.Row.{Row}
 use Rattle.rules.specs.Rules.{resultInput}
@@ -19,10 +20,9 @@ use Rattle.model.specs.Plan.{Outcome, Plan, Posting, accepted, finished, limite
 use Rattle.model.specs.Plan.{room}
 use Rattle.model.specs.Result.{Figures, View, brokerAfter, figures, finish, plan, posting, result, view}
 use Rattle.model.specs.Rows.{sameRow}
-use Rattle.kept.specs.Posted.{writes}
-use Rattle.laws.specs.Puts.{news, olds}
-use Rattle.reorder.specs.Agree.{Agree}
+use Rattle.facts.specs.Posted.{writes}
 use Rattle.kept.specs.Cases.{no}
+use Rattle.reorder.specs.Agree.{Agree}
 use Rattle.reorder.specs.Inv.{Inv, broker-kind, itsBroker, not-same, totals}
 use Rattle.reorder.specs.SameView.{same-view}
 use Rattle.reorder.specs.Step

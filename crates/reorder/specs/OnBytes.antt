@@ -28,16 +28,14 @@ use Rattle.model.specs.Plan.{Outcome}
 use Rattle.model.specs.Rows.{bytes, found, is, mostRecords, nothing, recordSize, rows, there, wholeRecords}
 use Rattle.model.specs.Sound.{sound}
 use Rattle.model.specs.SoundMeans.{means-sound}
-use Rattle.shelf.specs.Put.{found-has, found-none}
-use Rattle.tables.specs.Found.{sound-s1}
-use Rattle.tables.specs.Names.{by-id}
-use Rattle.result.specs.Apart.{found-kind, found-member}
+use Rattle.facts.specs.Found.{found-has, found-none, sound-s1, found-kind, found-member}
+use Rattle.facts.specs.Names.{by-id}
 use Rattle.kept.specs.Bytes.{length-bytes, rows-bytes}
 use Rattle.kept.specs.Cases.{by-cases, cond-no, cond-yes}
+use Rattle.kept.specs.Calls.{SoundBytes, uncalled}
 use Rattle.reorder.specs.Local.{Fine}
 use Rattle.reorder.specs.Run.{noteTo, on}
 use Rattle.reorder.specs.Sim.{Fines, final, trace}
-use Rattle.kept.specs.Calls.{SoundBytes, uncalled}
 use Rattle.reorder.specs.Statement.{Unhindered, call, ending, replies, rightLengths}
 use Rattle.reorder.specs.Step.{Done, Note, Refused, done-sound, done-status, outcome, step, step-cases}
 use Rattle.reorder.specs.Step.{step-length}

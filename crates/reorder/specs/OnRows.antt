@@ -13,17 +13,17 @@ use borrow.Author.Tests.{eq-eqb, eqb-false, eqb-true, le-leb, lt-ltb, not-true}
 use Rattle.laws.specs.Keep.{count-has, count-one, keep-from, keep-has, the-has}
 use Rattle.laws.specs.Place.{the-passes}
 use Rattle.laws.specs.Search.{bit, count, keep, the, total}
+use Rattle.laws.specs.Total.{total-on}
 use Rattle.record.specs.Codes.{kindBroker, kindFree}
 use Rattle.record.specs.Key.{among}
 use Rattle.record.specs.declared.row.Row.{Row}
 use Rattle.model.specs.Names.{aBroker, aTrade}
 use Rattle.model.specs.Rows.{found, is, mostRecords, nothing, sameRow}
 use Rattle.model.specs.Sound.{sound}
-use Rattle.shelf.specs.Put.{row-itself, same-rows}
-use Rattle.laws.specs.Total.{total-on}
+use Rattle.facts.specs.Rows.{row-itself, same-rows}
+use Rattle.kept.specs.Cases.{by-cases, one-bit}
 use Rattle.reorder.specs.Agree.{Agree, total-agree}
 use Rattle.reorder.specs.Broker.{Field, gain, run-value}
-use Rattle.kept.specs.Cases.{by-cases, one-bit}
 use Rattle.reorder.specs.Inv.{Inv, apart, inv-step, namelessNote}
 use Rattle.reorder.specs.Local.{Fine, local}
 use Rattle.reorder.specs.Sim.{Fines, final, trace, two-runs}

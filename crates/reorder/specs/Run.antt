@@ -11,15 +11,15 @@ use borrow.Author.Tests.{eq-eqb, leb-false, leb-true}
 use Rattle.laws.specs.Keep.{count-split}
 use Rattle.laws.specs.Search.{bit, count, the, total}
 use Rattle.laws.specs.Tests.{and-both}
+use Rattle.laws.specs.Puts.{count-less, is-counted, member, the-one}
 use Rattle.record.specs.Codes.{kindBroker, kindFree}
 use Rattle.record.specs.declared.row.Row.{Row}
 use Rattle.model.specs.Names.{aBroker}
 use Rattle.model.specs.Rows.{found, hasKey, is, nothing, sameRow}
 use Rattle.model.specs.Sound.{sound}
-use Rattle.shelf.specs.Put.{row-itself, same-rows}
-use Rattle.tables.specs.Names.{by-party}
-use Rattle.result.specs.Apart.{found-live, found-member}
-use Rattle.laws.specs.Puts.{count-less, is-counted, member, the-one}
+use Rattle.facts.specs.Rows.{row-itself, same-rows}
+use Rattle.facts.specs.Names.{by-party}
+use Rattle.facts.specs.Found.{found-live, found-member}
 use Rattle.kept.specs.Cases.{by-cases, no}
 use Rattle.kept.specs.ResultBase.{free-nothing}
 use Rattle.kept.specs.Once.{key-once}

@@ -8,8 +8,8 @@ use lib.Dec.{eqb}
 use borrow.Author.Tests.{eq-eqb, eqb-true}
 use Rattle.laws.specs.Keep.{count-one}
 use Rattle.laws.specs.Tests.{_⇔_, and-both, and-left, and-right}
-use Rattle.record.specs.Codes.{kindAccount, kindBand, kindCustomerRate, kindFree, kindLot, kindLotHistory, kindSummary}
-use Rattle.record.specs.Codes.{kindTrade}
+use Rattle.record.specs.Codes.{kindAccount, kindBand, kindCustomerRate, kindFree, kindLot, kindLotHistory}
+use Rattle.record.specs.Codes.{kindSummary, kindTrade}
 use Rattle.record.specs.Key.{among}
 use Rattle.record.specs.declared.key.Key.{Key}
 use Rattle.record.specs.declared.row.Row.{Row}
@@ -21,13 +21,13 @@ use Rattle.model.specs.Names.{aCustomer, aLot, aSecurity, aSummary, aTaxRate, a
 use Rattle.model.specs.Result.{View, view}
 use Rattle.model.specs.Rows.{found, hasKey, is, nothing, sameRow}
 use Rattle.model.specs.Sound.{lotOf, ratesOf, short, sound}
-use Rattle.shelf.specs.Put.{row-itself, same-rows}
-use Rattle.tables.specs.Names.{by-holder, by-id, by-party}
-use Rattle.result.specs.Apart.{key-kind}
-use Rattle.reorder.specs.Agree.{Agree, the-agree, total-agree}
+use Rattle.facts.specs.Rows.{row-itself, same-rows}
+use Rattle.facts.specs.Names.{by-holder, by-id, by-party}
+use Rattle.facts.specs.Keys.{key-kind}
 use Rattle.kept.specs.Looks.{rates-alike}
 use Rattle.kept.specs.Once.{band-once, key-once, means-band}
 use Rattle.kept.specs.Cases.{no}
+use Rattle.reorder.specs.Agree.{Agree, the-agree, total-agree}
 use Rattle.reorder.specs.Earlier.{before-both, before-total, before-trans}
 use Rattle.reorder.specs.Sorted.{sort-agree}
 use Rattle.reorder.specs.Whose.{aside, byParty, byTrade, mine, mine-none, mine-own, whose-none, whose-party}

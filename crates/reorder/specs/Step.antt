@@ -14,6 +14,7 @@ use Rattle.laws.specs.Keep.{keep-from}
 use Rattle.laws.specs.Search.{keep, total}
 use Rattle.laws.specs.Sort.{of-sort}
 use Rattle.laws.specs.Tests.{_⇔_, and-left, and-right}
+use Rattle.laws.specs.Puts.{news, olds, puts-total}
 use Rattle.record.specs.Codes.{kindAccount, kindFree, kindLot, kindSummary, kindTrade}
 use Rattle.record.specs.declared.row.Row.{Row}
 use Rattle.rules.specs.Rules.{resultInput}
@@ -28,15 +29,14 @@ use Rattle.model.specs.Plan.{Outcome, pick, refused}
 use Rattle.model.specs.Result.{Figures, View, figures, posting, result, view}
 use Rattle.model.specs.Rows.{found, hasKey, is, mostRecords, sameRow, there}
 use Rattle.model.specs.Sound.{lotOf, short, sound}
-use Rattle.shelf.specs.Put.{found-has, row-itself, same-rows}
-use Rattle.tables.specs.Names.{by-holder, by-id, by-party}
-use Rattle.result.specs.Apart.{found-live, found-member, named-there, names-account, names-broker}
-use Rattle.verdict.specs.Judge.{judged-outcome, judged-refused, judged-status, resultStatus}
+use Rattle.facts.specs.Found.{found-has, found-live, found-member}
+use Rattle.facts.specs.Rows.{row-itself, same-rows}
+use Rattle.facts.specs.Names.{by-holder, by-id, by-party}
+use Rattle.facts.specs.Sound.{named-there, names-account, names-broker}
+use Rattle.facts.specs.Posted.{posted-puts, writes}
 use Rattle.kept.specs.Bytes.{puts-length}
-use Rattle.kept.specs.Posted.{posted-puts, writes}
-use Rattle.kept.specs.ResultBase.{Accepted, accepted-all, postingOf, result-inside}
+use Rattle.kept.specs.ResultBase.{Accepted, accepted-all, postingOf, refused-all, result-inside}
 use Rattle.kept.specs.ResultSound.{result-sound}
-use Rattle.laws.specs.Puts.{news, olds, puts-total}
 use Rattle.kept.specs.Cases.{by-cases}
 use Rattle.reorder.specs.Writes.{Seen}
 
@@ -79,11 +79,11 @@ module _ (rs : List Row) (input : Row) where
   pub step-cases : Refused rs input ⊎ Done rs input
   step-cases =
       by-cases (resultInput input)
-      (λ r. by-cases (isDone (resultStatus rs input))
-      (λ d. inr (record { right = r; done = ap isDone (judged-status rs input) ∙ d }))
+      (λ r. by-cases (isDone (result rs input .status))
+      (λ d. inr (record { right = r; done = d }))
       (λ d.
-      let q : outcome rs input ≡ refused (resultStatus rs input) rs =
-      ap (λ (b : Bool). pick b (result rs input) (refused BadInput rs)) r ∙ judged-refused rs input d
+      let q : outcome rs input ≡ refused (result rs input .status) rs =
+      ap (λ (b : Bool). pick b (result rs input) (refused BadInput rs)) r ∙ refused-all rs input d
       in
       inl (record {
         not-done = ap (λ (o : Outcome). isDone (o .status)) q ∙ d;
@@ -107,17 +107,14 @@ module _ (rs : List Row) (input : Row) where
     outcome-is : outcome rs input ≡ result rs input
     outcome-is = ap (λ (b : Bool). pick b (result rs input) (refused BadInput rs)) (d .right)
 
-    judged-done : isDone (resultStatus rs input) ≡ true
-    judged-done = ap isDone (sym (judged-status rs input)) ∙ d .done
-
     pub done-status : isDone (outcome rs input .status) ≡ true
     done-status = ap (λ (o : Outcome). isDone (o .status)) outcome-is ∙ d .done
 
-    pub done-answer : outcome rs input .answer ≡ posting input v (figures input v) .answer ∷ []
-    done-answer = ap (λ (o : Outcome). o .answer) (outcome-is ∙ judged-outcome rs input judged-done)
-
     accepted : Accepted rs input
     accepted = accepted-all rs input (d .done)
+
+    pub done-answer : outcome rs input .answer ≡ posting input v (figures input v) .answer ∷ []
+    done-answer = ap (λ (o : Outcome). o .answer) outcome-is ∙ accepted .answer
 
     done-rows : outcome rs input .rows ≡ puts sameRow (writes (postingOf rs input)) rs
     done-rows =

@@ -12,7 +12,7 @@ use lib.ListN.{length, getD, replicate}
 use borrow.Author.Tests.{eqb-false, eqb-true, le-ltb, ne-eqb}
 use Rattle.laws.specs.Search.{bit, count, every, keep, means-every, seek, total}
 use Rattle.record.specs.Codes.{kindAccount, kindBand, kindBroker, kindCustomer, kindResult, kindSecurity, kindTrade}
-use Rattle.record.specs.Codes.{kindTradeHistory, submitted, tmb, tms}
+use Rattle.record.specs.Codes.{submitted, tmb, tms}
 use Rattle.record.specs.Grid.{decode, encode}
 use Rattle.record.specs.declared.row.Row.{Row}
 use Rattle.rules.specs.Ranges.{flags, form, id, kind, n1, n2, n3, n4, party, status, symbol, when}
@@ -24,6 +24,7 @@ use Rattle.model.specs.Rows.{bytes, mostRecords, nothing, rows, wholeRecords}
 use Rattle.model.specs.Sample.{abc}
 use Rattle.model.specs.Sound.{sound}
 use Rattle.model.specs.Status.{number}
+use Rattle.model.specs.History.{historyRow}
 use Rattle.reorder.specs.Proof.{demand-3}
 use Rattle.reorder.specs.Statement.{Order, SameEnd, TwoRuns, Unhindered, accountOf, ending, ownPlaces, replies}
 use Rattle.reorder.specs.Statement.{replyTo}
@@ -35,7 +36,7 @@ sent type account number shares =
     kind ≔ kindTrade ∷ form ≔ type ∷ status ≔ submitted ∷ flags ≔ 1 ∷ party ≔ account ∷ id ≔ number ∷ symbol ≔ abc
     ∷ n1 ≔ shares
     ∷ n2 ≔ 3_000 ∷ n4 ≔ 500 ∷ when ≔ 300 ∷ [])
-    ∷ new (kind ≔ kindTradeHistory ∷ status ≔ submitted ∷ id ≔ number ∷ when ≔ 300 ∷ [])
+    ∷ historyRow submitted number 300
     ∷ []
 
 abbrev account : ℕ → Row

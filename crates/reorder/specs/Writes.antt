@@ -16,14 +16,13 @@ use Rattle.record.specs.Key.{among, keyOf, sameKey}
 use Rattle.record.specs.declared.row.Row.{Row}
 use Rattle.model.specs.Lots.{Closing, closings}
 use Rattle.model.specs.Names.{aTrade}
-use Rattle.model.specs.Result.{Figures, View, leftOf, posting, signed}
+use Rattle.model.specs.Result.{Figures, View, holding, leftOf, lotHistory, posting, signed, summedShares, sumsOf}
+use Rattle.model.specs.Result.{tradeAfter}
 use Rattle.model.specs.Rows.{hasKey, is, nothing}
-use Rattle.result.specs.Apart.{all-closings}
-use Rattle.result.specs.Rows.{holding, lotHistory, summedShares, tradeAfter}
-use Rattle.result.specs.Posted.{sumsOf}
+use Rattle.facts.specs.Lots.{all-closings}
+use Rattle.facts.specs.Posted.{adds, frees, writes}
 use Rattle.kept.specs.ResultEach.{Each, cashOf, each-added, each-changed, each-freed, historyOf, lotOpened}
 use Rattle.kept.specs.ResultEach.{settlementOf, summaryOpened}
-use Rattle.kept.specs.Posted.{adds, frees, writes}
 use Rattle.reorder.specs.Whose.{byParty, byTrade, whose, whose-history, whose-party, whose-trade}
 
 -- the account of the trade i, where this is its row

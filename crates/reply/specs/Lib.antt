@@ -1,3 +1,2 @@
-pub mod Back
 pub mod Left
 pub mod Refusal

@@ -7,18 +7,18 @@ use lib.ListN.{set}
 use lib.IntN.{ℤ, pos}
 use borrow.Author.Tests.{eq-eqb, ne-eqb}
 use Rattle.laws.specs.Change.{fill, fill-append}
-use Rattle.record.specs.Codes.{kindFree}
+use Rattle.record.specs.Codes.{kindFree, completed}
 use Rattle.record.specs.Signed.{up}
 use Rattle.record.specs.declared.row.Row.{Row}
 use Rattle.model.specs.Flags.{cash}
-use Rattle.model.specs.Result.{signed}
+use Rattle.model.specs.Result.{signed, cashRow, finalRows, lotHistory, newLot, newSummary, openingRows, settlementRow}
+use Rattle.model.specs.Result.{summaryRows, summedShares}
 use Rattle.model.specs.Rows.{is, nothing, rows, sameRow}
+use Rattle.model.specs.History.{historyRow}
 use Rattle.shelf.specs.Put.{Free, free-add}
 use Rattle.shelf.specs.Rows.{after, freeFrom}
 use Rattle.verdict.specs.declared.figures.Figures.{Figures}
 use Rattle.verdict.specs.declared.figures.Terms.{Terms}
-use Rattle.result.specs.Rows.{cashRow, finalRows, lotHistory, newLot, newSummary, openingRows, settlementRow}
-use Rattle.result.specs.Rows.{summaryRows, summedShares, tradeHistory}
 
 -- the rows hs are added, and the search for the next free place may begin at `next`
 pub record Added (hs : List Row) (b b′ : List ℕ) (next : ℕ) : Type 0 where
@@ -75,20 +75,20 @@ module _ (t summary : Row) {b : List ℕ} {from : ℕ} (f : Free b from) where
 -- ---- trade history, settlement, and cash for a cash trade
 module _ (t : Row) (amount : ℤ) (time : ℕ) {b : List ℕ} {from : ℕ} (f : Free b from) (b₁ b₂ : List ℕ) {h s : Row}
     {next last : ℕ}
-    (h-is : h ≡ tradeHistory t time)
+    (h-is : h ≡ historyRow completed (t .id) time)
     (h-next : next ≡ after (rows b) (freeFrom (rows b) from))
     (h-put : rows b₁ ≡ set (rows b) (freeFrom (rows b) from) h)
     (s-is : s ≡ settlementRow t amount time)
     (s-next : last ≡ after (rows b₁) (freeFrom (rows b₁) next))
     (s-put : rows b₂ ≡ set (rows b₁) (freeFrom (rows b₁) next) s) where
-  two : Added (tradeHistory t time ∷ settlementRow t amount time ∷ []) b b₂ last
+  two : Added (historyRow completed (t .id) time ∷ settlementRow t amount time ∷ []) b b₂ last
   two = more (more (added-none f) refl h-is h-next h-put) refl s-is s-next s-put
 
   abbrev paid : Bool → List Row
   paid x = cond x (cashRow t amount time ∷ []) []
 
   abbrev final : Bool → List Row
-  final x = tradeHistory t time ∷ settlementRow t amount time ∷ paid x
+  final x = historyRow completed (t .id) time ∷ settlementRow t amount time ∷ paid x
 
   pub no-cash : {x : Bool} → x ≡ cash (t .flags) → x ≡ false → Added (finalRows t amount time) b b₂ last
   no-cash e k = subst (λ (x : Bool). Added (final x) b b₂ last) (sym k ∙ e) two

@@ -20,10 +20,10 @@ use Rattle.record.specs.declared.row.Row.{Row}
 use Rattle.model.specs.Flags.{cash}
 use Rattle.model.specs.Names.{aBroker, aSummary, aTrade, anAccount}
 use Rattle.model.specs.Rows.{hasKey, is, nothing, rows}
-use Rattle.result.specs.declared.change.Places.{Places}
+use Rattle.model.specs.Result.{brokerAfter, gone, holding, summedShares, tradeAfter}
 use Rattle.verdict.specs.declared.figures.Figures.{Figures}
 use Rattle.verdict.specs.declared.figures.Terms.{Terms}
-use Rattle.result.specs.Rows.{brokerAfter, gone, holding, summedShares, tradeAfter}
+use Rattle.result.specs.declared.change.Places.{Places}
 
 abbrev pub placesOf : List Row → ℕ → Row → Row → Places
 placesOf rs number trade account = record {

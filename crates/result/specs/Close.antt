@@ -20,17 +20,17 @@ use Rattle.record.specs.Codes.{kindFree, kindLot}
 use Rattle.record.specs.declared.row.Row.{Row}
 use Rattle.rules.specs.Ranges.{sharesMost}
 use Rattle.model.specs.Lots.{Closing, closings, size, taken}
-use Rattle.model.specs.Result.{signed}
+use Rattle.model.specs.Result.{signed, closedLots, closingRows, holding, lotChanges, lotHistory, reduced}
 use Rattle.model.specs.Rows.{is, nothing, rows, sameRow}
 use Rattle.model.specs.Sound.{s1, s2}
+use Rattle.facts.specs.Lots.{closings-next, closings-none}
 use Rattle.shelf.specs.Put.{Adding, Free, add-next}
 use Rattle.shelf.specs.Rows.{after, freeFrom, rowAt}
-use Rattle.lots.specs.Lots.{closings-next, closings-none, lotsOf}
+use Rattle.lots.specs.Lots.{lotsOf}
 use Rattle.result.specs.declared.close.Closed.{Closed}
 use Rattle.result.specs.Add.{Added}
 use Rattle.result.specs.Place.{placed, span, spot}
 use Rattle.result.specs.Places.{all-good, fair, good, lots-in, lotsIn, span-next}
-use Rattle.result.specs.Rows.{closedLots, closingRows, holding, lotChanges, lotHistory, reduced}
 
 -- what a trade takes of its lots
 abbrev pub closed : List Row → Row → List Closing

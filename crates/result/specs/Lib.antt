@@ -4,9 +4,6 @@ pub mod Change
 pub mod Place
 pub mod Places
 pub mod Close
-pub mod Apart
-pub mod Own
 pub mod Posted
-pub mod Summary
 pub mod Post
 pub mod Whole

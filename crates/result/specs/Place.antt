@@ -1,12 +1,12 @@
 -- The place where a row that a result changes or frees stands at entry, found by its key; and the places of lots, as an
 -- array has them. Assumes nothing.
-use mathlib.Core.List.{List, [], _∷_, map}
+use mathlib.Core.List.{List, [], _∷_}
 use Prim.Native.Nat.{ℕ, zero, suc, _-_}
 use lib.ListN.{getD}
 use Rattle.laws.specs.Search.{place}
 use Rattle.record.specs.Key.{keyOf}
 use Rattle.record.specs.declared.row.Row.{Row}
-use Rattle.model.specs.Rows.{hasKey, nothing}
+use Rattle.model.specs.Rows.{hasKey}
 
 -- where a row's key stands first
 abbrev pub spot : List Row → Row → ℕ
@@ -15,10 +15,6 @@ spot rs o = place (hasKey (keyOf o)) rs
 -- a row in the place of another, by the place
 abbrev pub placed : List Row → Row × Row → ℕ × Row
 placed rs w = (spot rs (w .0), w .1)
-
--- a row that goes leaves nothing
-abbrev pub frees : List Row → List (Row × Row)
-frees os = map (λ (o : Row). (o, nothing)) os
 
 -- m places of an array, from the one before n downwards
 unfoldable pub span : List ℕ → ℕ → ℕ → List ℕ

@@ -28,11 +28,11 @@ use Rattle.model.specs.Names.{aLot}
 use Rattle.model.specs.Rows.{found, hasKey, is, mostRecords, nothing, rows, sameRow}
 use Rattle.model.specs.Sound.{s1, s2}
 use Rattle.model.specs.SoundMeans.{means-s1}
+use Rattle.facts.specs.Rows.{row-itself, same-rows, length-rows}
+use Rattle.facts.specs.Found.{found-again, own-number}
+use Rattle.facts.specs.Lots.{closes-lot}
 use Rattle.queue.specs.Queue.{Mark, queued}
-use Rattle.shelf.specs.Put.{row-itself, same-rows}
-use Rattle.shelf.specs.Rows.{length-rows}
-use Rattle.tables.specs.Found.{found-again, own-number}
-use Rattle.lots.specs.Lots.{closes-lot, lotsOf, mark}
+use Rattle.lots.specs.Lots.{lotsOf, mark}
 use Rattle.result.specs.Place.{span, spot}
 
 -- ---- places of an array

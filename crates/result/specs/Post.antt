@@ -22,24 +22,25 @@ use Rattle.rules.specs.Ranges.{brokerTrades, commissionTotal, moneyMost, shares
 use Rattle.rules.specs.Rules.{resultInput}
 use Rattle.model.specs.Flags.{cash}
 use Rattle.model.specs.Lots.{Closing, all-shares, closings, start, step, walk}
-use Rattle.model.specs.Result.{Figures, View, figures, posting, view}
+use Rattle.model.specs.Result.{Figures, View, accountChanges, brokerAfter, closedLots, closingRows, figures, gone}
+use Rattle.model.specs.Result.{holding, lotChanges, posting, summaryChanges, summaryGone, summedShares, tradeAfter}
+use Rattle.model.specs.Result.{view}
 use Rattle.model.specs.Sound.{sound}
 use Rattle.model.specs.Names.{aBroker, aSummary, aTrade, anAccount}
 use Rattle.model.specs.Rows.{found, hasKey, is, nothing, rows, sameRow, there}
-use Rattle.shelf.specs.Put.{found-has}
-use Rattle.result.specs.declared.change.Places.{Places}
+use Rattle.facts.specs.Found.{found-has, found-kind, found-live, found-member}
+use Rattle.facts.specs.Sound.{named-there, names-account, names-broker}
+use Rattle.facts.specs.Posted.{frees}
 use Rattle.verdict.specs.declared.figures.Figures as code
 use Rattle.verdict.specs.declared.figures.Terms.{Terms}
-use Rattle.result.specs.Add.{Added, ownAdded}
-use Rattle.result.specs.Apart.{found-kind, found-live, found-member, named-there, names-account, names-broker}
-use Rattle.result.specs.Close.{closed}
 use Rattle.verdict.specs.Judge.{Passed, inRange, resultRows}
-use Rattle.result.specs.Posted.{posted-by-place}
 use Rattle.verdict.specs.Figures.{figuresOf, termsOf, trade-shares}
+use Rattle.result.specs.declared.change.Places.{Places}
+use Rattle.result.specs.Add.{Added, ownAdded}
+use Rattle.result.specs.Close.{closed}
+use Rattle.result.specs.Posted.{posted-by-place}
 use Rattle.result.specs.Change.{accountPut, changePuts, placesOf, summaryFree, summaryPut}
-use Rattle.result.specs.Place.{frees, placed, spot}
-use Rattle.result.specs.Rows.{accountChanges, brokerAfter, closedLots, closingRows, gone, holding, lotChanges}
-use Rattle.result.specs.Rows.{summaryChanges, summaryGone, summedShares, tradeAfter}
+use Rattle.result.specs.Place.{placed, spot}
 
 -- ---- a row that is found stands where its key does
 spot-found : (k : Key) (rs : List Row) → there k rs ≡ true → spot rs (found k rs) ≡ place (hasKey k) rs

@@ -9,17 +9,16 @@ use Rattle.record.specs.Signed.{up}
 use Rattle.record.specs.declared.row.Row.{Row}
 use Rattle.model.specs.Call.{isDone}
 use Rattle.model.specs.Plan.{refused}
-use Rattle.model.specs.Result.{figures, posting, result, view}
+use Rattle.model.specs.Result.{figures, posting, result, view, answerRow}
 use Rattle.model.specs.Rows.{mostRecords, recordSize, rows, wholeRecords}
 use Rattle.model.specs.declared.Status.{Status}
-use Rattle.reply.specs.Left.{answerLeft, bookLeft, left-accepted, left-refused}
 use Rattle.shelf.specs.Rows.{putAt}
+use Rattle.reply.specs.Left.{answerLeft, bookLeft, left-accepted, left-refused}
 use Rattle.verdict.specs.declared.figures.Figures.{Figures}
 use Rattle.verdict.specs.declared.figures.Terms.{Terms}
 use Rattle.verdict.specs.Figures.{figuresOf, termsOf}
-use Rattle.verdict.specs.Judge.{Passed, judged, judged-outcome, judged-refused, judged-status, passed-all}
-use Rattle.verdict.specs.Judge.{resultRows, resultStatus}
-use Rattle.result.specs.Rows.{answerRow}
+use Rattle.verdict.specs.Judge.{Passed, judged, judged-outcome, judged-refused, judged-status, passed-all, resultRows}
+use Rattle.verdict.specs.Judge.{resultStatus}
 
 abbrev pub answerOf : Terms → Figures → Row
 answerOf t f = answerRow (t .trade) (up (f .tax .0)) (f .balance .0) (f .settlement .0)

@@ -12,7 +12,8 @@ use Rattle.laws.specs.Search.{every, largest, place, seek, total}
 use Rattle.laws.specs.Walk.{left-next, left-none, seek-end, seek-here, seek-later}
 use Rattle.record.specs.declared.row.Row.{Row}
 use Rattle.model.specs.Rows.{nothing, rows}
-use Rattle.shelf.specs.Rows.{length-rows, rowAt}
+use Rattle.facts.specs.Rows.{length-rows}
+use Rattle.shelf.specs.Rows.{rowAt}
 
 inside : (b : List ℕ) (i : ℕ) → i < length b / 64 → i < length (rows b)
 inside b i h = rw length-rows h

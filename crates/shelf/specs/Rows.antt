@@ -8,22 +8,19 @@ use Prim.Native.Nat.{ℕ, _+_, _*_, _/_, _≤_, _<_}
 use native.Mathlib.Omega.{arith}
 use borrow.Author.Tests.{lt-ltb, le-ltb, ltb-true, ltb-false}
 use lib.Dec.{ltb}
-use lib.ListN.{length, drop, getD, set, length-map, List·getD-map, List·getD-eq-default}
+use lib.ListN.{length, drop, getD, set, List·getD-map, List·getD-eq-default}
 use lib.Seq.{set-out}
-use Rattle.laws.specs.Chunk.{chunk, part, splice, length-chunk, chunk-at, chunk-splice, length-splice, map-set}
+use Rattle.laws.specs.Chunk.{chunk, part, splice, chunk-at, chunk-splice, length-splice, map-set}
 use Rattle.laws.specs.Search.{seek}
 use Rattle.record.specs.Codes.{kindFree}
 use Rattle.record.specs.Grid.{decode, encode, decode-encode, length-encode, Sized}
 use Rattle.record.specs.declared.row.Row.{Row}
 use Rattle.model.specs.Rows.{is, nothing, rows}
+use Rattle.facts.specs.Rows.{length-rows}
 
 -- the row at a place, nothing past the end
 abbrev pub rowAt : List ℕ → ℕ → Row
 rowAt b i = getD (rows b) i nothing
-
-pub length-rows : (b : List ℕ) → length (rows b) ≡ length b / 64
-unfolding rows
-length-rows b = length-map (chunk 64 (length b / 64) b) decode ∙ length-chunk 64 (length b / 64) b
 
 pub rows-at : (b : List ℕ) (i : ℕ) → i < length b / 64 → rowAt b i ≡ decode (part 64 i b)
 unfolding rows decode

@@ -1,15 +1,12 @@
 // The history row of a trade, which every call that gives a trade a status adds.
 ghost use mathlib.Core.Path.{_≡_};
-ghost use mathlib.Core.List.{[], _∷_};
-ghost use Rattle.record.specs.Codes.{kindTradeHistory};
-ghost use Rattle.rules.specs.Ranges.{id, kind, status, when};
-ghost use Rattle.model.specs.Edit.{_≔_, new};
+ghost use Rattle.model.specs.History.{historyRow};
 use crate::place::nothing;
 use record::codes::Kind;
 use record::row::Row;
 
 pub fn history(reached: u8, number: u64, time: u32) -> Row
-    ensures { λ r. ⌜ r ≡ new (kind ≔ kindTradeHistory ∷ status ≔ reached ∷ id ≔ number ∷ when ≔ time ∷ []) ⌝ }
+    ensures { λ r. ⌜ r ≡ historyRow reached number time ⌝ }
 {
     let mut h = nothing();
     h.kind = Kind::TRADE_HISTORY;

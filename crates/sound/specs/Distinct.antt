@@ -11,6 +11,7 @@ use borrow.Author.Tests.{eqb-true, eq-eqb, ne-eqb, le-leb, lt-leb, ltb-true, ltb
 use Rattle.laws.specs.Search.{count, every, means-every, place, seek, total}
 use Rattle.laws.specs.Tests.{and-both, and-left, and-right, one-truth, or-either, or-else}
 use Rattle.laws.specs.Walk.{left-next, left-none}
+use Rattle.laws.specs.Place.{seek-suc, some-place}
 use Rattle.record.specs.Codes.{kindFree}
 use Rattle.record.specs.Key.{keyOf}
 use Rattle.record.specs.KeyLaws.{key-itself, same-keys}
@@ -18,8 +19,8 @@ use Rattle.record.specs.declared.key.Key.{Key}
 use Rattle.record.specs.declared.row.Row.{Row}
 use Rattle.model.specs.Rows.{hasKey, is, nothing, rows}
 use Rattle.model.specs.Sound.{alone, s2}
-use Rattle.shelf.specs.Rows.{length-rows, rowAt}
-use Rattle.laws.specs.Place.{seek-suc, some-place}
+use Rattle.facts.specs.Rows.{length-rows}
+use Rattle.shelf.specs.Rows.{rowAt}
 
 -- the key of a row stands nowhere in a list
 abbrev nowhere : Row → List Row → Bool

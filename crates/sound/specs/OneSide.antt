@@ -26,9 +26,8 @@ use Rattle.rules.specs.Meaning.{means-lot}
 use Rattle.rules.specs.Rules.{as-kind, fits}
 use Rattle.model.specs.Names.{aSummary, aTrade}
 use Rattle.model.specs.Rows.{found, hasKey, is, nothing, there}
-use Rattle.model.specs.Sound.{each, equalZ, lotOf, lotRight, otherSign, s1, s8, sharesOf, short}
-use Rattle.model.specs.Sound.{summaryRight}
-use Rattle.tables.specs.Names.{by-holder}
+use Rattle.model.specs.Sound.{each, equalZ, lotOf, lotRight, otherSign, s1, s8, sharesOf, short, summaryRight}
+use Rattle.facts.specs.Names.{by-holder}
 use Rattle.tables.specs.Sums.{sharesPart}
 
 -- what is counted and what is summed are none together

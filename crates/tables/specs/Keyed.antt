@@ -13,9 +13,8 @@ use Rattle.model.specs.Band.{bandFor}
 use Rattle.model.specs.Names.{aSecurity, aSummary, aTrade, byId, byParty}
 use Rattle.model.specs.Rows.{hasKey, is}
 use Rattle.model.specs.Sound.{lotOf}
+use Rattle.facts.specs.Names.{by-holder, by-id, by-party, by-symbol, idKinds, of-five, of-four, partyKinds}
 use Rattle.tables.specs.Bucket.{bucketOf, keyBucket, steadyBucket}
-use Rattle.tables.specs.Names.{by-holder, by-id, by-party, by-symbol, idKinds, of-five, of-four}
-use Rattle.tables.specs.Names.{partyKinds}
 
 -- the rows of p all have the number k
 pub record Keyed (g : Row → ℕ) (p : Row → Bool) (k : ℕ) : Type 0 where

@@ -14,6 +14,7 @@ use mir.Val.{toZ}
 use borrow.Author.Tests.{eqb-true}
 use Rattle.laws.specs.Search.{bit, count, total}
 use Rattle.laws.specs.Tests.{and-left, and-right}
+use Rattle.laws.specs.Place.{every-at}
 use Rattle.record.specs.Codes.{kindBand, kindCustomerRate, kindLot, kindTradeHistory}
 use Rattle.record.specs.Key.{keyOf}
 use Rattle.record.specs.Signed.{up, dn, toZ-high}
@@ -24,10 +25,10 @@ use Rattle.rules.specs.Rules.{as-kind, fits}
 use Rattle.model.specs.Names.{aHistory, aTaxRate}
 use Rattle.model.specs.Rows.{found, hasKey, is, mostRecords, nothing, rows, there}
 use Rattle.model.specs.Sound.{lotOf, overlaps, rateOf, s1}
-use Rattle.shelf.specs.Rows.{length-rows, rowAt}
+use Rattle.facts.specs.Rows.{length-rows}
+use Rattle.facts.specs.Names.{by-status, ofId, ofParty}
+use Rattle.shelf.specs.Rows.{rowAt}
 use Rattle.tables.specs.Bucket.{bucketOf, keyBucket, steadyBucket}
-use Rattle.tables.specs.Names.{by-status, ofId, ofParty}
-use Rattle.laws.specs.Place.{every-at}
 use Rattle.tables.specs.Table.{Counted}
 use Rattle.tables.specs.Keyed.{Keyed, band-tests, history-bucket, lot-bucket}
 

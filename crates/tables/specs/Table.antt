@@ -13,16 +13,18 @@ use borrow.Author.Tests.{eq-eqb, eqb-true, eqb-false}
 use Rattle.laws.specs.Chain.{Chained, chain-start, chain-more, chain-put, numbered}
 use Rattle.laws.specs.Search.{count, place, seek, the, total}
 use Rattle.laws.specs.Walk.{from, from-high, from-holds, from-low, from-passes, from-skips, left-next, left-none}
+use Rattle.laws.specs.Place.{some-place, the-place}
 use Rattle.record.specs.Key.{keyOf}
 use Rattle.record.specs.KeyLaws.{same-keys}
 use Rattle.record.specs.declared.key.Key.{Key}
 use Rattle.record.specs.declared.row.Row.{Row}
 use Rattle.model.specs.Rows.{found, hasKey, mostRecords, nothing, rows, there}
+use Rattle.facts.specs.Rows.{length-rows}
 use Rattle.shelf.specs.Loop.{Sought, seek-found, seek-more, seek-none}
-use Rattle.shelf.specs.Rows.{length-rows, rowAt}
+use Rattle.shelf.specs.Rows.{rowAt}
 use Rattle.tables.specs.Bucket.{bucketOfKey, headCount, keyBucket}
-use Rattle.laws.specs.Place.{some-place, the-place}
-use Rattle.tables.specs.Keyed.{Keyed, band-keyed, holder-keyed, id-keyed, party-keyed, symbol-keyed, trade-keyed}
+use Rattle.tables.specs.Keyed.{Keyed, band-keyed, holder-keyed, id-keyed, party-keyed, symbol-keyed}
+use Rattle.tables.specs.Keyed.{trade-keyed}
 
 -- the heads of the buckets, and after them a link for each place
 abbrev pub tableSize : ℕ

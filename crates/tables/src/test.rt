@@ -5,7 +5,7 @@ ghost use Rattle.record.specs.Key.{among};
 ghost use Rattle.model.specs.Names.{aSecurity, aSummary, byId, byParty};
 ghost use Rattle.model.specs.Rows.{hasKey};
 ghost use Rattle.model.specs.Sound.{lotOf};
-ghost use Rattle.tables.specs.Names.{idKinds, partyKinds};
+ghost use Rattle.facts.specs.Names.{idKinds, partyKinds};
 use record::codes::Kind;
 use record::row::Row;
 

@@ -11,6 +11,7 @@ use lib.ListN.{length, length-append, length-map}
 use borrow.Author.Tests.{eq-eqb, eqb-true, le-leb, leb-false, leb-true, lt-leb, ltb-false, ltb-true, ne-eqb}
 use mir.Syntax.{w64}
 use mir.Val.{ofZ, toZ}
+use Rattle.laws.specs.Tests.{some}
 use Rattle.record.specs.Codes.{kindFree, submitted}
 use Rattle.record.specs.Signed.{up}
 use Rattle.record.specs.declared.row.Row.{Row}
@@ -24,11 +25,10 @@ use Rattle.model.specs.Flags.{cash}
 use Rattle.model.specs.Lots.{closings, lotsFor}
 use Rattle.model.specs.Names.{aBroker}
 use Rattle.model.specs.Call.{isDone}
-use Rattle.model.specs.Plan.{Outcome, Plan, Posting, accepted, checked, finished, limited, pick, post, posted}
-use Rattle.model.specs.Plan.{refuse, refused, room}
+use Rattle.model.specs.Plan.{Outcome, Plan, Posting, accepted, checked, finished, limited, pick, post, posted, refuse}
+use Rattle.model.specs.Plan.{refused, room}
 use Rattle.model.specs.Result.{View, figures, finish, plan, posting, result, view, withBroker}
 use Rattle.model.specs.Rows.{found, is}
-use Rattle.lots.specs.Terms.{some}
 use Rattle.verdict.specs.declared.figures.Figures.{Figures}
 use Rattle.verdict.specs.declared.figures.Terms.{Terms}
 use Rattle.verdict.specs.Figures.{figuresOf, figuresSeen, termsOf, termsSeen}

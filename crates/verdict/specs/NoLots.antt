@@ -23,9 +23,10 @@ use Rattle.model.specs.Names.{aSummary}
 use Rattle.model.specs.Rows.{found, hasKey, is, there}
 use Rattle.model.specs.Sound.{lotOf, short, sound}
 use Rattle.model.specs.SoundMeans.{There, means-sound}
-use Rattle.shelf.specs.Put.{found-has}
+use Rattle.facts.specs.Found.{found-has}
+use Rattle.facts.specs.Lots.{Within}
 use Rattle.lots.specs.Lots.{lotsOf}
-use Rattle.lots.specs.Walk.{Within, made, seen}
+use Rattle.lots.specs.Walk.{made, seen}
 use Rattle.lots.specs.declared.walk.Walk.{Walk}
 
 -- the row of a trade's holding, nothing where it has none

@@ -9,7 +9,7 @@ ghost use mir.Val.{toZ};
 ghost use Rattle.rules.specs.Ranges.{charged, fee, moneyMost, sharesMost};
 ghost use Rattle.model.specs.Money.{settlementOf};
 ghost use Rattle.model.specs.Result.{signed};
-ghost use Rattle.lots.specs.Walk.{valueMost};
+ghost use Rattle.facts.specs.Lots.{valueMost};
 use lots::units::signed;
 use lots::walk::buys;
 use record::bytes::signed64;

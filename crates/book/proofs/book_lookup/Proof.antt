@@ -2,14 +2,14 @@
 use native.Mathlib.Omega.{arith}
 use lib.ListN.{length}
 use Prim.Native.Nat.{_*_}
-use Rattle.model.specs.Call.{run}
-use Rattle.model.specs.declared.Status.the-variants.{BadLength}
-use Rattle.reply.specs.Back.{number-back}
-use Rattle.sound.specs.ByRow.{rule-kept, rule-lost}
-use Rattle.book.specs.Shell.{decides, empty, lookup-left, lookup-long, refuses, uncalled, wrong-lengths}
 use borrow.Author.Needs.{needs}
 use Rattle.book.proofs.book_lookup.Statement.{statement}
 use Rattle.book.proofs.book_lookup.Tie as tie
+use Rattle.model.specs.Call.{run}
+use Rattle.model.specs.declared.Status.the-variants.{BadLength}
+use Rattle.facts.specs.Status.{number-back}
+use Rattle.sound.specs.ByRow.{rule-kept, rule-lost}
+use Rattle.book.specs.Shell.{decides, empty, lookup-left, lookup-long, refuses, uncalled, wrong-lengths}
 
 returns : tie.Need-returns
 unfolding run

@@ -1,13 +1,13 @@
 -- The lengths, the shell's checks, the inner call and its end, which is the answer that the rules define. Assumes
 -- nothing.
 use native.Mathlib.Omega.{arith}
-use Rattle.model.specs.declared.Status.the-variants.{BadLength}
-use Rattle.reply.specs.Back.{number-back}
-use Rattle.sound.specs.ByRow.{rule-kept, rule-lost}
-use Rattle.book.specs.Shell.{decides, empty, refuses, right-lengths, uncalled, wrong-lengths}
 use borrow.Author.Needs.{needs}
 use Rattle.book.proofs.called.Statement.{statement}
 use Rattle.book.proofs.called.Tie as tie
+use Rattle.model.specs.declared.Status.the-variants.{BadLength}
+use Rattle.facts.specs.Status.{number-back}
+use Rattle.sound.specs.ByRow.{rule-kept, rule-lost}
+use Rattle.book.specs.Shell.{decides, empty, refuses, right-lengths, uncalled, wrong-lengths}
 
 returns : tie.Need-returns
 returns c =

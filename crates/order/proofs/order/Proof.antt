@@ -2,12 +2,12 @@
 -- put. Assumes nothing.
 use mathlib.Core.Path.{_≡_}
 use lib.ListN.{length}
-use Rattle.shelf.specs.Put.{free-start}
-use Rattle.tables.specs.Found.{sound-s1}
-use Rattle.order.specs.Whole.{order-done, order-refused}
 use borrow.Author.Needs.{needs}
 use Rattle.order.proofs.order.Statement.{statement}
 use Rattle.order.proofs.order.Tie as tie
+use Rattle.facts.specs.Found.{sound-s1}
+use Rattle.shelf.specs.Put.{free-start}
+use Rattle.order.specs.Whole.{order-done, order-refused}
 
 terms-of-requires : tie.Need-terms-of-requires
 terms-of-requires c κs =

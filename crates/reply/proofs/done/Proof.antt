@@ -1,8 +1,8 @@
 -- The number of a status is zero for one of them. Assumes nothing.
 use borrow.Author.Needs.{needs}
-use Rattle.reply.specs.Back.{done-by}
 use Rattle.reply.proofs.done.Statement.{statement}
 use Rattle.reply.proofs.done.Tie as tie
+use Rattle.facts.specs.Status.{done-by}
 
 returns : tie.Need-returns
 returns c = done-by (c .code .result) (c .before .args .s) (c .code .ensures)

@@ -1,10 +1,10 @@
 -- What is done leaves the area as it was; a refusal writes it whole. Assumes nothing.
 use borrow.Author.Needs.{needs}
 use mathlib.Core.Path.{refl}
-use Rattle.reply.specs.Back.{number-back}
-use Rattle.reply.specs.Refusal.{ends-done, ends-refused}
 use Rattle.reply.proofs.finish.Statement.{statement}
 use Rattle.reply.proofs.finish.Tie as tie
+use Rattle.facts.specs.Status.{number-back}
+use Rattle.reply.specs.Refusal.{ends-done, ends-refused}
 
 returns : tie.Need-returns
 returns c =

@@ -1,9 +1,9 @@
 -- One field is set in the row of a free record; a signed number is read back from its bits. Assumes nothing.
 use borrow.Author.Needs.{needs}
-use Rattle.reply.specs.Back.{number-back}
-use Rattle.reply.specs.Refusal.{refusal}
 use Rattle.reply.proofs.refusal.Statement.{statement}
 use Rattle.reply.proofs.refusal.Tie as tie
+use Rattle.facts.specs.Status.{number-back}
+use Rattle.reply.specs.Refusal.{refusal}
 
 returns : tie.Need-returns
 unfolding refusal

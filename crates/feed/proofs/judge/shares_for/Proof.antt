@@ -3,13 +3,13 @@
 use Prim.Native.Nat.{_-_}
 use mathlib.Core.Bool.{cond}
 use lib.Dec.{eqb}
-use Rattle.model.specs.Rows.{rows}
-use Rattle.shelf.specs.Loop.{Summed, loops}
-use Rattle.feed.specs.Judge.{few-inputs}
-use Rattle.feed.specs.Volumes.{sharesFor}
 use borrow.Author.Needs.{needs}
 use Rattle.feed.proofs.judge.shares_for.Statement.{statement}
 use Rattle.feed.proofs.judge.shares_for.Tie as tie
+use Rattle.model.specs.Rows.{rows}
+use Rattle.facts.specs.Feed.{sharesFor}
+use Rattle.shelf.specs.Loop.{Summed, loops}
+use Rattle.feed.specs.Judge.{few-inputs}
 
 abbrev Inv-loop : tie.InvT-loop
 Inv-loop input symbol n sum₀ i₀ sum i =

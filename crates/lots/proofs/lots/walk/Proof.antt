@@ -4,11 +4,12 @@
 use borrow.Author.Needs.{needs}
 use mathlib.Core.Path.{ap, _∙_}
 use native.Mathlib.Omega.{arith}
-use Rattle.model.specs.Rows.{rows}
-use Rattle.lots.specs.Lots.{Walking, lot-price, walk-all, walk-end, walk-more, walk-room, walk-start}
-use Rattle.lots.specs.Walk.{made}
 use Rattle.lots.proofs.lots.walk.Statement.{statement}
 use Rattle.lots.proofs.lots.walk.Tie as tie
+use Rattle.model.specs.Rows.{rows}
+use Rattle.facts.specs.Most.{lot-price}
+use Rattle.lots.specs.Lots.{Walking, walk-all, walk-end, walk-more, walk-room, walk-start}
+use Rattle.lots.specs.Walk.{made}
 
 abbrev Inv-loop : tie.InvT-loop
 Inv-loop book keys trade price ids n₀ w₀ n w = Walking (trade .form) (price .0) (rows book) ids n₀ w₀ n w

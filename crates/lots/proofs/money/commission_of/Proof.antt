@@ -1,8 +1,8 @@
 -- A half is added before the division; each factor is in its range, so the product fits. Assumes nothing.
 use native.Mathlib.Omega.{arith}
-use Rattle.lots.specs.Money.{commission-product, commission-taken, commission-whole}
 use Rattle.lots.proofs.money.commission_of.Statement.{statement}
 use Rattle.lots.proofs.money.commission_of.Tie as tie
+use Rattle.facts.specs.Money.{commission-product, commission-taken, commission-whole}
 
 mul-result : tie.Need-mul-result
 mul-result c =

@@ -2,9 +2,9 @@
 -- so the product fits. Assumes nothing.
 use borrow.Author.Needs.{needs}
 use native.Mathlib.Omega.{arith}
-use Rattle.lots.specs.Money.{tax-gain, tax-none, tax-product, tax-taken}
 use Rattle.lots.proofs.money.tax_of.Statement.{statement}
 use Rattle.lots.proofs.money.tax_of.Tie as tie
+use Rattle.facts.specs.Money.{tax-gain, tax-none, tax-product, tax-taken}
 
 sub-result : tie.Need-sub-result
 sub-result c = let h = tax-gain _ _ _ (c .before .taxable .ensures) (c .if1 .taken) in omega arith

@@ -1,10 +1,10 @@
 -- A sound book and a good input keep all values in their range, and each is the one of the rules. Assumes nothing.
-use Rattle.tables.specs.Found.{sound-s1, sound-s2}
-use Rattle.lots.specs.Walk.{sold-most}
-use Rattle.order.specs.Estimate.{estimate-is, price-fits, rate-fits, rates-fit, shares-fit}
 use borrow.Author.Needs.{needs}
 use Rattle.order.proofs.estimate.estimated.Statement.{statement}
 use Rattle.order.proofs.estimate.estimated.Tie as tie
+use Rattle.facts.specs.Found.{sound-s1, sound-s2}
+use Rattle.lots.specs.Walk.{sold-most}
+use Rattle.order.specs.Estimate.{estimate-is, price-fits, rate-fits, rates-fit, shares-fit}
 
 walk-requires : tie.Need-walk-requires
 walk-requires c κs =

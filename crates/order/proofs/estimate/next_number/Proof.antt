@@ -2,12 +2,12 @@
 use mathlib.Core.Path.{ap}
 use native.Mathlib.Omega.{arith}
 use Prim.Native.Nat.{ℕ, _+_}
-use Rattle.model.specs.Order.{nextNumber}
-use Rattle.order.specs.Bounds.{number-most}
-use Rattle.order.specs.Estimate.{tradeNo}
 use borrow.Author.Needs.{needs}
 use Rattle.order.proofs.estimate.next_number.Statement.{statement}
 use Rattle.order.proofs.estimate.next_number.Tie as tie
+use Rattle.model.specs.Order.{nextNumber}
+use Rattle.facts.specs.Most.{number-most}
+use Rattle.order.specs.Estimate.{tradeNo}
 
 add-t3 : tie.Need-add-t3
 add-t3 c =

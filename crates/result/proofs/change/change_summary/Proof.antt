@@ -1,12 +1,12 @@
 -- A summary that is there, and does not come to zero, is changed in its place. Assumes nothing.
-use Rattle.result.specs.Change.{held-kept, set-one, unset}
-use Rattle.result.specs.Rows.{holding}
-use Rattle.record.specs.Signed.{got64}
 use lib.IntN.{ℤ}
 use mathlib.Core.Path.{ap, _∙_}
 use borrow.Author.Needs.{needs}
 use Rattle.result.proofs.change.change_summary.Statement.{statement}
 use Rattle.result.proofs.change.change_summary.Tie as tie
+use Rattle.record.specs.Signed.{got64}
+use Rattle.model.specs.Result.{holding}
+use Rattle.result.specs.Change.{held-kept, set-one, unset}
 
 returns : tie.Need-returns
 returns c =

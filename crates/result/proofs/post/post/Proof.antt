@@ -1,12 +1,12 @@
 -- Each row goes where the rules have it: what is added first, then what is changed and freed. Assumes nothing.
-use Rattle.shelf.specs.Put.{free-start}
-use Rattle.tables.specs.Found.{sound-s1, sound-s2}
-use Rattle.verdict.specs.Figures.{summary-found, trade-shares}
-use Rattle.result.specs.Post.{all-posted, broker-fits, left-fits, time-fits}
-use Rattle.result.specs.Summary.{few-rows, summary-seen}
 use borrow.Author.Needs.{needs}
 use Rattle.result.proofs.post.post.Statement.{statement}
 use Rattle.result.proofs.post.post.Tie as tie
+use Rattle.facts.specs.Found.{sound-s1, sound-s2}
+use Rattle.facts.specs.Rows.{few-rows}
+use Rattle.shelf.specs.Put.{free-start}
+use Rattle.verdict.specs.Figures.{summary-fits, summary-found, trade-shares}
+use Rattle.result.specs.Post.{all-posted, broker-fits, left-fits, time-fits}
 
 lot-places-requires : tie.Need-lot-places-requires
 lot-places-requires c κs =
@@ -38,7 +38,7 @@ add-own-requires c κs =
     let few = few-rows _ (start .pre .0 .few) in
     let some = left-fits _ (v .input) good right read reckoned in (
       closed .add-closings .ensures .0 .free,
-      ((summary-seen _ good (v .input) few read, most), (some, time-fits _ (v .input) good right read reckoned)),
+      ((summary-fits _ (v .input) good read few, most), (some, time-fits _ (v .input) good right read reckoned)),
     )
 
 change-requires : tie.Need-change-requires
@@ -53,7 +53,7 @@ change-requires c κs =
     let read = start .pre .1 .1 .0 .0 in
     let v = start .args in
     let few = few-rows _ (start .pre .0 .few) in (
-      (summary-seen _ good (v .input) few read, trade-shares _ (v .input) good read),
+      (summary-fits _ (v .input) good read few, trade-shares _ (v .input) good read),
       broker-fits (v .figures) (broker .party-row .ensures) (start .pre .1 .1 .1 .within),
     )
 
@@ -69,7 +69,7 @@ free-summary-requires c κs =
     let read = start .pre .1 .1 .0 .0 in
     let v = start .args in
     let few = few-rows _ (start .pre .0 .few) in
-    (summary-seen _ good (v .input) few read, trade-shares _ (v .input) good read)
+    (summary-fits _ (v .input) good read few, trade-shares _ (v .input) good read)
 
 returns : tie.Need-returns
 returns c =

@@ -2,10 +2,10 @@
 -- looked for. Assumes nothing.
 use mathlib.Core.Path.{sym}
 use borrow.Author.Tests.{ne-eqb}
-use Rattle.tables.specs.Names.{history-twin, other-kind}
 use borrow.Author.Needs.{needs}
 use Rattle.tables.proofs.table.twin.Statement.{statement}
 use Rattle.tables.proofs.table.twin.Tie as tie
+use Rattle.facts.specs.Names.{history-twin, other-kind}
 
 returns : tie.Need-returns
 returns c = sym (other-kind _ _ (ne-eqb _ _ (c .if1 .taken)))

@@ -1,8 +1,8 @@
 -- By the fields that tell the key. Assumes nothing.
 use mathlib.Core.Path.{sym}
-use Rattle.tables.specs.Names.{by-party}
 use Rattle.tables.proofs.test.of_party.Statement.{statement}
 use Rattle.tables.proofs.test.of_party.Tie as tie
+use Rattle.facts.specs.Names.{by-party}
 
 returns : tie.Need-returns
 returns c = sym (by-party _ (c .before .before .pre) _ _)

@@ -1,8 +1,8 @@
 -- By the fields that tell the key. Assumes nothing.
 use mathlib.Core.Path.{sym}
-use Rattle.tables.specs.Names.{by-symbol}
 use Rattle.tables.proofs.test.security.Statement.{statement}
 use Rattle.tables.proofs.test.security.Tie as tie
+use Rattle.facts.specs.Names.{by-symbol}
 
 returns : tie.Need-returns
 returns c = sym (by-symbol _ _)

@@ -1,8 +1,8 @@
 -- By the fields that tell the key. Assumes nothing.
 use mathlib.Core.Path.{sym}
-use Rattle.tables.specs.Names.{by-holder}
 use Rattle.tables.proofs.test.summary.Statement.{statement}
 use Rattle.tables.proofs.test.summary.Tie as tie
+use Rattle.facts.specs.Names.{by-holder}
 
 returns : tie.Need-returns
 returns c = sym (by-holder _ _ _)

@@ -1,10 +1,11 @@
 -- A sound book and a good input keep all values in their range, and each is the one of the rules. Assumes nothing.
 use borrow.Author.Needs.{needs}
-use Rattle.lots.specs.Walk.{sold-most}
-use Rattle.verdict.specs.Figures.{balance-fits, charge-fits, figures-are, price-fits, rate-fits, rates-fit}
-use Rattle.verdict.specs.Figures.{summary-found, trade-shares}
 use Rattle.verdict.proofs.figures.figured.Statement.{statement}
 use Rattle.verdict.proofs.figures.figured.Tie as tie
+use Rattle.facts.specs.Most.{price-fits}
+use Rattle.lots.specs.Walk.{sold-most}
+use Rattle.verdict.specs.Figures.{balance-fits, charge-fits, figures-are, rate-fits, rates-fit, summary-found}
+use Rattle.verdict.specs.Figures.{trade-shares}
 
 walked-requires : tie.Need-walked-requires
 walked-requires c κs =

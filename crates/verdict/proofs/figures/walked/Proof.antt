@@ -1,9 +1,9 @@
 -- Without a summary there is no lot, and the walk has only begun. Assumes nothing.
-use Rattle.tables.specs.Found.{sound-s1, sound-s2}
-use Rattle.verdict.specs.NoLots.{no-walk}
 use borrow.Author.Needs.{needs}
 use Rattle.verdict.proofs.figures.walked.Statement.{statement}
 use Rattle.verdict.proofs.figures.walked.Tie as tie
+use Rattle.facts.specs.Found.{sound-s1, sound-s2}
+use Rattle.verdict.specs.NoLots.{no-walk}
 
 start-requires : tie.Need-start-requires
 start-requires c κs =

@@ -1,10 +1,10 @@
 -- Without a summary there is no lot to close. Assumes nothing.
 use native.Mathlib.Omega.{arith}
-use Rattle.tables.specs.Found.{sound-s2}
-use Rattle.verdict.specs.NoLots.{none-closed}
 use borrow.Author.Needs.{needs}
 use Rattle.verdict.proofs.judge.lots_closed.Statement.{statement}
 use Rattle.verdict.proofs.judge.lots_closed.Tie as tie
+use Rattle.facts.specs.Found.{sound-s2}
+use Rattle.verdict.specs.NoLots.{none-closed}
 
 returns : tie.Need-returns
 returns c =

@@ -1,8 +1,8 @@
 -- Both are far from the half of 64 bits. Assumes nothing.
 use mir.Facts.{toZ-ofZ}
-use Rattle.verdict.specs.Signed.{sum-fits}
 use Rattle.verdict.proofs.signed.added.Statement.{statement}
 use Rattle.verdict.proofs.signed.added.Tie as tie
+use Rattle.facts.specs.Signed.{sum-fits}
 
 add-result : tie.Need-add-result
 add-result c =

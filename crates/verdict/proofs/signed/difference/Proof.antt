@@ -1,10 +1,10 @@
 -- Both are below the half of 64 bits, and so is what lies between them. Assumes nothing.
 use borrow.Author.Needs.{needs}
 use mir.Facts.{toZ-ofZ}
-use Rattle.record.specs.Signed.{got64}
-use Rattle.verdict.specs.Signed.{difference-fits}
 use Rattle.verdict.proofs.signed.difference.Statement.{statement}
 use Rattle.verdict.proofs.signed.difference.Tie as tie
+use Rattle.record.specs.Signed.{got64}
+use Rattle.facts.specs.Signed.{difference-fits}
 
 sub-result : tie.Need-sub-result
 sub-result c =

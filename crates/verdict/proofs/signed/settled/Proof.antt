@@ -2,10 +2,11 @@
 use borrow.Author.Needs.{needs}
 use Prim.Native.Nat.{_+_}
 use native.Mathlib.Omega.{arith}
-use Rattle.record.specs.Signed.{got64}
-use Rattle.verdict.specs.Signed.{bought-is, difference-near, sold-is, withheld-most}
 use Rattle.verdict.proofs.signed.settled.Statement.{statement}
 use Rattle.verdict.proofs.signed.settled.Tie as tie
+use Rattle.record.specs.Signed.{got64}
+use Rattle.facts.specs.Money.{bought-is, sold-is, withheld-most}
+use Rattle.facts.specs.Signed.{difference-near}
 
 add-less-2 : tie.Need-add-less-2
 add-less-2 c =

@@ -1,7 +1,7 @@
 -- By cases on the status. Assumes nothing.
-use Rattle.verdict.specs.Signed.{withheld-all, withheld-none}
 use Rattle.verdict.proofs.signed.withheld.Statement.{statement}
 use Rattle.verdict.proofs.signed.withheld.Tie as tie
+use Rattle.facts.specs.Money.{withheld-all, withheld-none}
 
 pub withheld-spec : {M : Type 1} → statement M
 withheld-spec =

@@ -2,11 +2,12 @@
 -- highest one, so each value stays within what it was with all that was needed. Assumes nothing.
 use borrow.Author.Needs.{needs}
 use mathlib.Core.Path.{_≡_, subst, sym}
-use Rattle.model.specs.Lots
-use Rattle.lots.specs.declared.walk.Walk.{Walk}
-use Rattle.lots.specs.Walk.{Within, made, seen, step-fits, step-part, step-within, valueMost}
 use Rattle.lots.proofs.walk.Walk.step.Statement.{statement}
 use Rattle.lots.proofs.walk.Walk.step.Tie as tie
+use Rattle.model.specs.Lots
+use Rattle.facts.specs.Lots.{Within, step-within, valueMost}
+use Rattle.lots.specs.declared.walk.Walk.{Walk}
+use Rattle.lots.specs.Walk.{made, seen, step-fits, step-part}
 
 less-requires : tie.Need-less-requires
 less-requires c κs =

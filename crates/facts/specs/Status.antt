@@ -10,13 +10,14 @@ use borrow.Author.Tests.{ltb-true}
 use mir.Syntax.{w32}
 use mir.Val.{toZ, ofZ}
 use Rattle.laws.specs.Search.{the}
-use Rattle.model.specs.declared.Status.{Status}
-use Rattle.model.specs.declared.Status.the-variants.{BadBook, BadInput, BadLength, Done, FeedNoSecurity, LookupNoTrade}
-use Rattle.model.specs.declared.Status.the-variants.{NoRoom, OrderNoAccount, OrderNoCharge, OrderNoRate}
-use Rattle.model.specs.declared.Status.the-variants.{OrderNoSecurity, OrderNoTax, OverLimit, ResultNoRate}
-use Rattle.model.specs.declared.Status.the-variants.{ResultNoTax, ResultNoTrade, ResultNotSubmitted, Unsound}
 use Rattle.model.specs.Call.{isDone}
 use Rattle.model.specs.Status.{number}
+use Rattle.model.specs.declared.Status.{Status}
+use Rattle.model.specs.declared.Status.the-variants.{BadBook, BadInput, BadLength, Done, FeedNoSecurity}
+use Rattle.model.specs.declared.Status.the-variants.{LookupNoTrade, NoRoom, OrderNoAccount, OrderNoCharge}
+use Rattle.model.specs.declared.Status.the-variants.{OrderNoRate, OrderNoSecurity, OrderNoTax, OverLimit}
+use Rattle.model.specs.declared.Status.the-variants.{ResultNoRate, ResultNoTax, ResultNoTrade, ResultNotSubmitted}
+use Rattle.model.specs.declared.Status.the-variants.{Unsound}
 
 abbrev statuses : List Status
 statuses =

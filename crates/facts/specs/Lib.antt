@@ -1,0 +1,13 @@
+pub mod Names
+pub mod Keys
+pub mod Rows
+pub mod Found
+pub mod Sound
+pub mod Signed
+pub mod Lots
+pub mod Most
+pub mod Money
+pub mod Status
+pub mod Posted
+pub mod Result
+pub mod Feed
