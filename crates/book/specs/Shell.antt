@@ -16,21 +16,21 @@ use Rattle.record.specs.Bytes.{Bytes}
 use Rattle.record.specs.declared.row.Row.{Row}
 use Rattle.rules.specs.Rules.{lookupInput}
 use Rattle.model.specs.Call as calls
-use Rattle.model.specs.Call.{Promise, Reply, either, isDone, mostInputs, refusalArea, replied, run, shell}
+use Rattle.model.specs.Status.{isDone, number}
+use Rattle.model.specs.Call.{Promise, Reply, either, mostInputs, refusalArea, replied, run, shell}
 use Rattle.model.specs.Lookup.{lookup}
 use Rattle.model.specs.Plan.{Outcome, pick, refused}
 use Rattle.model.specs.Rows.{mostRecords, recordSize, rows, wholeRecords}
 use Rattle.model.specs.Sound.{sound}
-use Rattle.model.specs.Status.{number}
 use Rattle.model.specs.declared.Status.{Status}
 use Rattle.model.specs.declared.Status.the-variants.{BadBook, BadInput, BadLength, Done, Unsound}
 use Rattle.model.specs.Unposted.{lookup-keeps}
-use Rattle.reply.specs.Left.{answerLeft, bookLeft, left-refused, promised}
-use Rattle.sound.specs.ByRow.{rule-kept, rule-lost}
 use Rattle.tables.specs.Bucket.{keyBucket, steadyBucket}
 use Rattle.tables.specs.Table.{Blank, Indexed, blank-of, tableSize}
+use Rattle.reply.specs.Left.{answerLeft, bookLeft, left-refused, promised}
+use Rattle.sound.specs.ByRow.{rule-kept, rule-lost}
 use Rattle.book.specs.declared.Call.{Call}
-use Rattle.book.specs.declared.Call.the-variants.{Order, Result, Feed}
+use Rattle.book.specs.declared.Call.the-variants.{Feed, Order, Result}
 
 -- the first of the shell's checks that fails
 unfoldable pub opening : Bool → List ℕ → Status

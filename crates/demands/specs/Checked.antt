@@ -1,34 +1,32 @@
--- Demand 2, proved: a call's status is that of the first of its tests that passes, each test means its condition, and
--- so the one law of tables says when each status is given. Assumes nothing.
+-- Demand 2, proved: a call's status is that of the first of its checks that fails, that a check fails means its
+-- condition, and so the one law of tables says when each status is given. Assumes nothing.
 use mathlib.Core.Path.{_≡_, refl, sym, ap, _∙_}
-use mathlib.Core.Bool.{Bool, true, false, not, _&&_}
-use mathlib.Core.List.{List, [], _∷_}
+use mathlib.Core.Bool.{Bool, true, false, not}
+use mathlib.Core.List.{List, _∷_}
 use Prim.Native.Nat.{ℕ, _+_}
-use lib.Dec.{eqb, leb}
+use lib.Dec.{leb}
 use borrow.Author.Tests.{not-false}
 use lib.IntN.{natAbs}
 use lib.ListN.{length}
-use Rattle.laws.specs.Search.{every}
-use Rattle.laws.specs.Tests.{means-eq}
-use Rattle.record.specs.Codes.{kindFree, submitted}
+use Rattle.laws.specs.Tests.{Means, means-eq}
+use Rattle.record.specs.Codes.{submitted}
 use Rattle.record.specs.Grid.{decode}
 use Rattle.record.specs.declared.row.Row.{Row}
 use Rattle.rules.specs.Ranges.{brokerTrades, commissionTotal, moneyMost, tradeNumber, volume}
 use Rattle.model.specs.Call.{Call, aFeed, aLookup, aResult, anOrder, decideOf, fieldsOf, lengthsOf, replied, run}
 use Rattle.model.specs.Call.{shell}
-use Rattle.model.specs.Feed.{feed, volumesFit}
-use Rattle.model.specs.Flags.{rollBack}
-use Rattle.model.specs.Lookup.{lookup}
-use Rattle.model.specs.Money.{untaxed}
+use Rattle.model.specs.Feed as feed
+use Rattle.model.specs.Lookup as lookup
 use Rattle.model.specs.Names.{aBroker, aSecurity, aTrade, anAccount}
 use Rattle.model.specs.Order as order
-use Rattle.model.specs.Plan.{checked, finished, limited, room}
+use Rattle.model.specs.Plan.{room}
 use Rattle.model.specs.Result as result
 use Rattle.model.specs.Rows.{found, is, mostRecords, rows, there, wholeRecords}
 use Rattle.model.specs.Sound.{sound}
 use Rattle.model.specs.SoundMeans.{SoundBook, means-sound}
 use Rattle.model.specs.Status.{number}
 use Rattle.facts.specs.Status.{one-status}
+use Rattle.facts.specs.Checks.{decided-status}
 use Rattle.kept.specs.Cases.{not-so}
 use Rattle.demands.specs.Conditions.{means-a-security, means-a-trade, means-absent, means-an-account}
 use Rattle.demands.specs.Conditions.{means-bad-book, means-fields, means-lengths, means-more, means-no-charge}
@@ -36,27 +34,26 @@ use Rattle.demands.specs.Conditions.{means-no-rate, means-not, means-one
 use Rattle.demands.specs.Conditions.{means-untaxed}
 use Rattle.demands.specs.Demand2.{Demand2, fedBy, feedLines, lookupLines, orderLines, ownLines, resultLines}
 use Rattle.demands.specs.Demand2.{table}
-use Rattle.demands.specs.Lines.{Told, exactly, given}
+use Rattle.demands.specs.Lines.{Told, exactly, fails, given, given-checks}
+
+-- a check that something is not so fails where it is so
+fails-not : (b : Bool) {P : Type 0} → Means b P → Means (not (not b)) P
+fails-not true m = m
+fails-not false m = m
 
 -- ---- order
 abbrev orderTests : List Row → Row → List Bool
-orderTests rs i =
-    let v = order.view rs i in
-    let w = order.walked i v in
-    is kindFree (v .account) ∷ is kindFree (v .security)
-    ∷ untaxed (v .account .form) (v .rates) (w .bought) (w .sold)
-    ∷ not (leb 1 (v .rate)) ∷ not (leb 1 (v .charge)) ∷ not (leb (v .number) (tradeNumber .high))
-    ∷ not (leb (length (order.posting i v .added)) (room rs)) ∷ []
+orderTests rs i = fails (order.checks rs i (order.view rs i))
 
 order-told : (rs : List Row) (i : Row) → sound rs ≡ true → Told (orderLines rs i) (orderTests rs i)
-unfolding order.view
+unfolding order.view order.checks
 order-told rs i good =
     let v = order.view rs i in (
-      means-absent rs (anAccount (i .party)) (means-an-account (i .party)) refl,
+      fails-not _ (means-absent rs (anAccount (i .party)) (means-an-account (i .party)) refl),
       λ _. (
-        means-absent rs (aSecurity (i .symbol)) (means-a-security (i .symbol)) refl,
+        fails-not _ (means-absent rs (aSecurity (i .symbol)) (means-a-security (i .symbol)) refl),
         λ _. (
-          means-untaxed rs good (i .party) (v .rates) (order.walked i v),
+          fails-not _ (means-untaxed rs good (i .party) (v .rates) (order.walked i v)),
           λ _. (
             means-no-rate rs good (i .form) _ _ (i .n1),
             λ _. (
@@ -72,56 +69,28 @@ order-told rs i good =
     )
 
 order-status : (rs : List Row) (i : Row) → order.order rs i .status ≡ given (orderLines rs i) (orderTests rs i)
-unfolding order.order order.plan order.finish checked finished limited
+unfolding order.order order.checks
 order-status rs i =
-    go (is kindFree (v .account)) (is kindFree (v .security)) _ (leb 1 (v .rate)) (leb 1 (v .charge))
-    (leb (v .number) (tradeNumber .high)) (leb (length (order.posting i v .added)) (room rs)) (rollBack (i .flags))
-    refl refl refl refl refl refl refl refl
-  where
-    v : order.View
-    v = order.view rs i
-
-    go : (a s t r c n m k : Bool) → is kindFree (v .account) ≡ a → is kindFree (v .security) ≡ s
-        → untaxed (v .account .form) (v .rates) (order.walked i v .bought) (order.walked i v .sold) ≡ t
-        → leb 1 (v .rate) ≡ r → leb 1 (v .charge) ≡ c → leb (v .number) (tradeNumber .high) ≡ n
-        → leb (length (order.posting i v .added)) (room rs) ≡ m → rollBack (i .flags) ≡ k
-        → order.order rs i .status ≡ given (orderLines rs i) (orderTests rs i)
-    go true s t r c n m k ea es et er ec en em ek = rw ea
-    go false true t r c n m k ea es et er ec en em ek = rw (ea, es)
-    go false false true r c n m k ea es et er ec en em ek = rw (ea, es, et)
-    go false false false false c n m k ea es et er ec en em ek = rw (ea, es, et, er)
-    go false false false true false n m k ea es et er ec en em ek = rw (ea, es, et, er, ec)
-    go false false false true true false m true ea es et er ec en em ek = rw (ea, es, et, er, ec, en, ek)
-    go false false false true true false m false ea es et er ec en em ek = rw (ea, es, et, er, ec, en, ek)
-    go false false false true true true false true ea es et er ec en em ek = rw (ea, es, et, er, ec, en, em, ek)
-    go false false false true true true false false ea es et er ec en em ek = rw (ea, es, et, er, ec, en, em, ek)
-    go false false false true true true true true ea es et er ec en em ek = rw (ea, es, et, er, ec, en, em, ek)
-    go false false false true true true true false ea es et er ec en em ek = rw (ea, es, et, er, ec, en, em, ek)
+    let cs = order.checks rs i (order.view rs i) in
+    decided-status cs rs _ refl
+    ∙ given-checks (orderLines rs i) cs
+    (refl, refl, (refl, refl, (refl, refl, (refl, refl, (refl, refl, (refl, refl, (refl, refl, tt)))))))
 
 -- ---- result
 abbrev resultTests : List Row → Row → List Bool
-resultTests rs i =
-    let v = result.view rs i in
-    let f = result.figures i v in
-    let b = found (aBroker (v .account .n1)) rs in
-    is kindFree (v .trade) ∷ not (eqb (v .trade .status) submitted)
-    ∷ untaxed (v .account .form) (v .rates) (f .walked .bought) (f .walked .sold)
-    ∷ not (leb 1 (v .rate))
-    ∷ not (leb (natAbs (f .balance)) moneyMost && leb (b .n1 + 1) (brokerTrades .high)
-    && leb (b .m1 + f .commission) (commissionTotal .high))
-    ∷ not (leb (length (result.posting i v f .added)) (room rs)) ∷ []
+resultTests rs i = let v = result.view rs i in fails (result.checks rs i v (result.figures i v))
 
 result-told : (rs : List Row) (i : Row) → sound rs ≡ true → Told (resultLines rs i) (resultTests rs i)
-unfolding result.view
+unfolding result.view result.checks
 result-told rs i good =
     let v = result.view rs i in
     let f = result.figures i v in
     let b = found (aBroker (v .account .n1)) rs in (
-      means-absent rs (aTrade (i .id)) (means-a-trade (i .id)) refl,
+      fails-not _ (means-absent rs (aTrade (i .id)) (means-a-trade (i .id)) refl),
       λ _. (
         means-not (means-eq (v .trade .status) submitted),
         λ _. (
-          means-untaxed rs good (v .trade .party) (v .rates) (f .walked),
+          fails-not _ (means-untaxed rs good (v .trade .party) (v .rates) (f .walked)),
           λ _. (
             means-no-rate rs good (v .trade .form) _ _ (v .trade .n1),
             λ _. (
@@ -137,44 +106,20 @@ result-told rs i good =
     )
 
 result-status : (rs : List Row) (i : Row) → result.result rs i .status ≡ given (resultLines rs i) (resultTests rs i)
-unfolding result.result result.plan result.finish checked finished limited
+unfolding result.result result.checks
 result-status rs i =
-    go (is kindFree (v .trade)) (eqb (v .trade .status) submitted) _ (leb 1 (v .rate)) within
-    (leb (length (result.posting i v f .added)) (room rs)) refl refl refl refl refl refl
-  where
-    v : result.View
-    v = result.view rs i
-
-    f : result.Figures
-    f = result.figures i v
-
-    b : Row
-    b = found (aBroker (v .account .n1)) rs
-
-    within : Bool
-    within =
-        leb (natAbs (f .balance)) moneyMost && leb (b .n1 + 1) (brokerTrades .high)
-        && leb (b .m1 + f .commission) (commissionTotal .high)
-
-    go : (a s t r n m : Bool) → is kindFree (v .trade) ≡ a → eqb (v .trade .status) submitted ≡ s
-        → untaxed (v .account .form) (v .rates) (f .walked .bought) (f .walked .sold) ≡ t
-        → leb 1 (v .rate) ≡ r → within ≡ n → leb (length (result.posting i v f .added)) (room rs) ≡ m
-        → result.result rs i .status ≡ given (resultLines rs i) (resultTests rs i)
-    go true s t r n m ea es et er en em = rw ea
-    go false false t r n m ea es et er en em = rw (ea, es)
-    go false true true r n m ea es et er en em = rw (ea, es, et)
-    go false true false false n m ea es et er en em = rw (ea, es, et, er)
-    go false true false true false m ea es et er en em = rw (ea, es, et, er, en)
-    go false true false true true false ea es et er en em = rw (ea, es, et, er, en, em)
-    go false true false true true true ea es et er en em = rw (ea, es, et, er, en, em)
+    let v = result.view rs i in
+    let cs = result.checks rs i v (result.figures i v) in
+    decided-status cs rs _ refl
+    ∙ given-checks (resultLines rs i) cs
+    (refl, refl, (refl, refl, (refl, refl, (refl, refl, (refl, refl, (refl, refl, tt))))))
 
 -- ---- feed
 abbrev feedTests : List Row → List Row → List Bool
-feedTests rs es =
-    not (every (λ (e : Row). there (aSecurity (e .symbol)) rs) es) ∷ not (volumesFit (fedBy rs es .rows) es)
-    ∷ not (leb (fedBy rs es .trades) (room rs)) ∷ []
+feedTests rs es = fails (feed.checks rs es)
 
 feed-told : (rs es : List Row) → Told (feedLines rs es) (feedTests rs es)
+unfolding feed.checks
 feed-told rs es = (
   means-some (λ (e : Row). there (aSecurity (e .symbol)) rs) es
       (λ e. means-unknown rs (aSecurity (e .symbol)) (means-a-security (e .symbol))),
@@ -185,39 +130,29 @@ feed-told rs es = (
   ),
 )
 
-feed-status : (rs es : List Row) → feed rs es .status ≡ given (feedLines rs es) (feedTests rs es)
-unfolding feed limited
+feed-status : (rs es : List Row) → feed.feed rs es .status ≡ given (feedLines rs es) (feedTests rs es)
+unfolding feed.feed feed.checks
 feed-status rs es =
-    go (every (λ (e : Row). there (aSecurity (e .symbol)) rs) es) (volumesFit (fedBy rs es .rows) es)
-    (leb (fedBy rs es .trades) (room rs)) refl refl refl
-  where
-    go : (a n m : Bool) → every (λ (e : Row). there (aSecurity (e .symbol)) rs) es ≡ a
-        → volumesFit (fedBy rs es .rows) es ≡ n → leb (fedBy rs es .trades) (room rs) ≡ m
-        → feed rs es .status ≡ given (feedLines rs es) (feedTests rs es)
-    go false n m ea en em = rw ea
-    go true false m ea en em = rw (ea, en)
-    go true true false ea en em = rw (ea, en, em)
-    go true true true ea en em = rw (ea, en, em)
+    decided-status (feed.checks rs es) rs _ refl
+    ∙ given-checks (feedLines rs es) (feed.checks rs es) (refl, refl, (refl, refl, (refl, refl, tt)))
 
 -- ---- lookup
 abbrev lookupTests : List Row → List Row → List Bool
-lookupTests rs is = not (every (λ (i : Row). there (aTrade (i .id)) rs) is) ∷ []
+lookupTests rs is = fails (lookup.checks rs is)
 
 lookup-told : (rs is : List Row) → Told (lookupLines rs is) (lookupTests rs is)
+unfolding lookup.checks
 lookup-told rs is = (
   means-some (λ (i : Row). there (aTrade (i .id)) rs) is
       (λ i. means-unknown rs (aTrade (i .id)) (means-a-trade (i .id))),
   λ _. tt,
 )
 
-lookup-status : (rs is : List Row) → lookup rs is .status ≡ given (lookupLines rs is) (lookupTests rs is)
-unfolding lookup
-lookup-status rs is = go (every (λ (i : Row). there (aTrade (i .id)) rs) is) refl
-  where
-    go : (a : Bool) → every (λ (i : Row). there (aTrade (i .id)) rs) is ≡ a
-        → lookup rs is .status ≡ given (lookupLines rs is) (lookupTests rs is)
-    go true e = rw e
-    go false e = rw e
+lookup-status : (rs is : List Row) → lookup.lookup rs is .status ≡ given (lookupLines rs is) (lookupTests rs is)
+unfolding lookup.lookup lookup.checks
+lookup-status rs is =
+    decided-status (lookup.checks rs is) rs _ refl
+    ∙ given-checks (lookupLines rs is) (lookup.checks rs is) (refl, refl, tt)
 
 -- ---- a call's own lines
 abbrev ownTests : Call → List Row → List ℕ → List Bool

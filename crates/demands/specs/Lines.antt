@@ -1,12 +1,16 @@
 -- The one law of every table of statuses: where each line's test means its condition, the status of the first test
 -- that passes is the one that is due. A new refusal is one more line and one more test. Assumes nothing.
-use mathlib.Core.Path.{_≡_, refl, sym}
-use mathlib.Core.Bool.{Bool, true, false, cond, false≢true}
+use mathlib.Core.Path.{_≡_, refl, sym, _∙_}
+use mathlib.Core.Bool.{Bool, true, false, cond, false≢true, not}
 use mathlib.Core.List.{List, [], _∷_}
 use mathlib.Core.Logic.{_↔_, inl, inr, ⊎-elim}
 use Rattle.laws.specs.Tests.{Means}
+use Rattle.laws.specs.Search.{run}
 use Rattle.model.specs.declared.Status.{Status}
 use Rattle.model.specs.declared.Status.the-variants.{Done}
+use Rattle.model.specs.Plan.{Check, verdict}
+use Rattle.model.specs.Status.{isDone}
+use Rattle.facts.specs.Checks.{verdict-next}
 use Rattle.demands.specs.Demand2.{Due, Line}
 
 -- a test for each line, which means its condition where none of those before it holds
@@ -34,3 +38,27 @@ exactly (l ∷ ls) (b ∷ bs) t s = go b (t .0) (λ n. exactly ls bs (t .1 n) s)
     go false m rest =
         let n : l .When → ⊥ = λ w. false≢true (m .holds w) in
         (λ e. inr (n, rest n .0 e), ⊎-elim (λ h. absurd (n (h .1))) (λ h. rest n .1 (h .1)))
+
+-- ---- the tests of a call's own lines are its checks, each of which fails
+abbrev pub fails : List Check → List Bool
+fails [] = []
+fails (c ∷ cs) = not (c .passes) ∷ fails cs
+
+-- line by line the same status, and none is success
+abbrev pub Same : List Line → List Check → Type 0
+Same [] [] = Unit {0}
+Same [] (c ∷ cs) = ⊥
+Same (l ∷ ls) [] = ⊥
+Same (l ∷ ls) (c ∷ cs) = (l .status ≡ c .else) × (isDone (c .else) ≡ false) × Same ls cs
+
+pub given-checks : (ls : List Line) (cs : List Check) → Same ls cs → verdict cs ≡ given ls (fails cs)
+unfolding verdict run
+given-checks [] [] h = refl
+given-checks [] (c ∷ cs) h = absurd h
+given-checks (l ∷ ls) [] h = absurd h
+given-checks (l ∷ ls) (c ∷ cs) h = verdict-next c cs (h .1) ∙ go (c .passes) (given-checks ls cs (h .2))
+  where
+    go : (t : Bool) → verdict cs ≡ given ls (fails cs)
+        → cond t (verdict cs) (c .else) ≡ cond (not t) (l .status) (given ls (fails cs))
+    go true e = e
+    go false e = sym (h .0)

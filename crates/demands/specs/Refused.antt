@@ -15,25 +15,19 @@ use mir.Syntax.{w32}
 use mir.Val.{ofZ, toZ}
 use Rattle.laws.specs.Tests.{and-left, and-right}
 use Rattle.record.specs.Bytes.{bytesOf, le, low-first}
-use Rattle.model.specs.Call.{Call, Promise, Reply, aFeed, aLookup, aResult, anOrder, isDone, lengthsOf, mostInputs}
-use Rattle.model.specs.Call.{decideOf, fieldsOf, refusalArea, replied, run, shell}
+use Rattle.model.specs.Status.{isDone, number}
+use Rattle.model.specs.Call.{Call, Promise, Reply, aFeed, aLookup, aResult, anOrder, decideOf, fieldsOf, lengthsOf}
+use Rattle.model.specs.Call.{mostInputs, refusalArea, replied, run, shell}
 use Rattle.model.specs.Plan.{Outcome, pick, refused}
 use Rattle.model.specs.Rows.{mostRecords, recordSize, rows, wholeRecords}
 use Rattle.model.specs.Sound.{sound}
-use Rattle.model.specs.Status.{number}
 use Rattle.model.specs.Unposted.{refusal-leaves}
 use Rattle.model.specs.declared.Status.{Status}
 use Rattle.model.specs.declared.Status.the-variants.{BadBook, BadInput, BadLength, Done, Unsound}
-use Rattle.facts.specs.Status.{done-by, fits-32, number-back}
+use Rattle.facts.specs.Status.{done-number, fits-32, number-back}
 use Rattle.kept.specs.Calls.{uncalled}
 use Rattle.kept.specs.Cases.{by-cases, not-so}
 use Rattle.demands.specs.Demand1.{Demand1, Keeps, Says}
-
--- the number of success is that of no refusal
-done-number : (s : Status) → isDone s ≡ true → number s ≡ number Done
-done-number s e =
-    let bits = eqb-true (ofZ w32 (number s)) 0 (done-by (number s) s refl ∙ e) in
-    sym (number-back (number s) s refl) ∙ ap (toZ w32) bits
 
 -- ---- the area of a refusal
 module _ (n : ℕ) (s : Status) (long : recordSize ≤ n) where

@@ -8,6 +8,7 @@ pub mod Lots
 pub mod Most
 pub mod Money
 pub mod Status
+pub mod Checks
 pub mod Posted
 pub mod Result
 pub mod Feed

@@ -6,12 +6,11 @@ use mathlib.Core.List.{List, [], _∷_}
 use Prim.Native.Nat.{_<_}
 use lib.Dec.{eqb, ltb}
 use lib.IntN.{ℤ}
-use borrow.Author.Tests.{ltb-true}
+use borrow.Author.Tests.{ltb-true, eqb-true}
 use mir.Syntax.{w32}
 use mir.Val.{toZ, ofZ}
 use Rattle.laws.specs.Search.{the}
-use Rattle.model.specs.Call.{isDone}
-use Rattle.model.specs.Status.{number}
+use Rattle.model.specs.Status.{isDone, number}
 use Rattle.model.specs.declared.Status.{Status}
 use Rattle.model.specs.declared.Status.the-variants.{BadBook, BadInput, BadLength, Done, FeedNoSecurity}
 use Rattle.model.specs.declared.Status.the-variants.{LookupNoTrade, NoRoom, OrderNoAccount, OrderNoCharge}
@@ -67,3 +66,12 @@ one-status s t e = sym (numbered s .2) ∙ ap named e ∙ numbered t .2
 
 pub fits-32 : (s : Status) → ofZ w32 (number s) < 0x1_0000_0000
 fits-32 s = ltb-true (ofZ w32 (number s)) 0x1_0000_0000 (numbered s .3)
+
+-- the number of success is that of no refusal
+pub done-number : (s : Status) → isDone s ≡ true → number s ≡ number Done
+done-number s e =
+    let bits = eqb-true (ofZ w32 (number s)) 0 (done-by (number s) s refl ∙ e) in
+    sym (number-back (number s) s refl) ∙ ap (toZ w32) bits
+
+pub is-done : (s : Status) → isDone s ≡ true → s ≡ Done
+is-done s e = one-status s Done (done-number s e)

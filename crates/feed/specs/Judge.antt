@@ -1,8 +1,8 @@
--- The status of a feed, told from the book at entry, and the laws of the code that comes to it. It is the status of
--- the rules if as many trades are submitted as requests are due. Assumes nothing.
+-- The status of a feed's checks, told from the book at entry, as the code comes to it: as many trades are submitted as
+-- requests are due, and each volume grows by the shares of the entries on its symbol. Assumes nothing.
 use mathlib.Core.Path.{_≡_, refl, sym, ap, _∙_}
-use mathlib.Core.Bool.{Bool, true, false, cond, _&&_, _||_, false≢true}
-use mathlib.Core.List.{List, [], _∷_}
+use mathlib.Core.Bool.{Bool, true, false, _&&_, _||_}
+use mathlib.Core.List.{List}
 use Prim.Native.Nat.{ℕ, _+_, _-_, _*_, _/_, _%_, _≤_, _<_}
 use native.Mathlib.Omega.{arith}
 use lib.Dec.{eqb, leb}
@@ -11,22 +11,24 @@ use borrow.Author.Tests.{le-leb, leb-true, lt-leb}
 use Rattle.laws.specs.Search.{count, every, place, run}
 use Rattle.laws.specs.Tests.{and-right, one-truth}
 use Rattle.laws.specs.Walk.{left-next, left-none}
-use Rattle.record.specs.Codes.{kindFeed}
 use Rattle.record.specs.declared.row.Row.{Row}
-use Rattle.rules.specs.Ranges.{kind, n1, n2, volume}
+use Rattle.rules.specs.Ranges.{volume}
 use Rattle.model.specs.declared.Status.{Status}
 use Rattle.model.specs.declared.Status.the-variants.{Done, FeedNoSecurity, NoRoom, OverLimit}
-use Rattle.model.specs.Call.{isDone, mostInputs}
-use Rattle.model.specs.Edit.{_≔_, new}
-use Rattle.model.specs.Feed.{Fed, applied, feed, swept}
+use Rattle.model.specs.Status.{isDone}
+use Rattle.model.specs.Call.{mostInputs}
+use Rattle.model.specs.Feed.{checks, fed, volumesFit}
 use Rattle.model.specs.Names.{aSecurity}
-use Rattle.model.specs.Plan.{Outcome, accepted, limited, pick, refused, room}
+use Rattle.model.specs.Plan.{also, room, verdict}
 use Rattle.model.specs.Rows.{found, hasKey, nothing, rows, there, wholeRecords}
+use Rattle.model.specs.Sound.{sound}
 use Rattle.facts.specs.Rows.{length-rows}
 use Rattle.facts.specs.Feed.{sharesFor, volumes-fit}
+use Rattle.facts.specs.Checks.{passed}
 use Rattle.shelf.specs.Rows.{rowAt}
 use Rattle.tables.specs.Table.{key-row}
 use Rattle.feed.specs.Hits.{due, hitBy, hits}
+use Rattle.feed.specs.Due.{trades-due}
 
 -- the volume of the entry's security stays in its range, with the shares of all entries on the symbol
 unfoldable pub volumeFits : List Row → List Row → Row → Bool
@@ -34,13 +36,6 @@ volumeFits rs es e = leb (found (aSecurity (e .symbol)) rs .m1 + sharesFor (e .s
 
 abbrev pub allKnown : List Row → List Row → Bool
 allKnown rs es = every (λ (e : Row). there (aSecurity (e .symbol)) rs) es
-
--- the status of a feed that submits n trades
-unfoldable pub feedStatus : List Row → List Row → ℕ → Status
-feedStatus rs es n =
-    cond (allKnown rs es)
-    (cond (every (volumeFits rs es) es) (cond (leb n (room rs)) Done NoRoom) OverLimit)
-    FeedNoSecurity
 
 -- ---- a search for an entry that hits the request
 pub record Hitting (r : Row) (b : List ℕ) (w : Bool) (i : ℕ) : Type 0 where
@@ -103,85 +98,34 @@ module _ (b : List ℕ) (es : List Row) (e : Row) where
       go : (m k : ℕ) → volume .high < k → false ≡ leb (m + k) (volume .high)
       go m k l = sym (lt-leb (m + k) (volume .high) (omega arith))
 
--- ---- the status
-module _ (rs es : List Row) (n : ℕ) where
-  pub judged-unknown : {x : Bool} → x ≡ allKnown rs es → x ≡ false → FeedNoSecurity ≡ feedStatus rs es n
-  unfolding feedStatus
-  judged-unknown e h = rw (sym e ∙ h)
+pub ruleset judging = (volume-in, volume-out)
 
-  pub judged-over : {x y : Bool} → x ≡ allKnown rs es → x ≡ true → y ≡ every (volumeFits rs es) es → y ≡ false
-      → OverLimit ≡ feedStatus rs es n
-  unfolding feedStatus
-  judged-over e h f k = rw (sym e ∙ h, sym f ∙ k)
+-- ---- the status: each check is that of the rules
+module _ (rs es : List Row) (good : sound rs ≡ true) where
+  -- where every security is known, the volumes are told from the book at entry
+  volumes : allKnown rs es ≡ true → volumesFit (fed rs es .rows) es ≡ every (volumeFits rs es) es
+  unfolding volumeFits
+  volumes e = volumes-fit (record { rows = rs; trades = 0 }) es e
 
-  pub judged-full : {x y : Bool} {z : ℕ} → x ≡ allKnown rs es → x ≡ true → y ≡ every (volumeFits rs es) es → y ≡ true
-      → z ≡ room rs → z < n → NoRoom ≡ feedStatus rs es n
-  unfolding feedStatus
-  judged-full {z = z} e h f k g l = rw (sym e ∙ h, sym f ∙ k, ← g, lt-leb n z l)
+  pub judged : {s1 s2 s3 : Status} {x y : Bool} {n m : ℕ} → n ≡ count (due es) rs → x ≡ allKnown rs es
+      → s1 ≡ also Done x FeedNoSecurity → y ≡ every (volumeFits rs es) es → s2 ≡ also s1 y OverLimit
+      → m ≡ room rs → s3 ≡ also s2 (leb n m) NoRoom → s3 ≡ verdict (checks rs es)
+  unfolding checks verdict run also
+  judged c k a v b r d = rw (d, r, b, v, a, k, c) (go (allKnown rs es) refl)
+    where
+      go : (t : Bool) → allKnown rs es ≡ t
+          → also (also (also Done (allKnown rs es) FeedNoSecurity) (every (volumeFits rs es) es) OverLimit)
+          (leb (count (due es) rs) (room rs)) NoRoom
+          ≡ verdict (checks rs es)
+      go true e = rw (volumes e, trades-due rs es good)
+      go false e = rw e
 
-  pub judged-well : {x y : Bool} {z : ℕ} → x ≡ allKnown rs es → x ≡ true → y ≡ every (volumeFits rs es) es → y ≡ true
-      → z ≡ room rs → n ≤ z → Done ≡ feedStatus rs es n
-  unfolding feedStatus
-  judged-well {z = z} e h f k g l = rw (sym e ∙ h, sym f ∙ k, ← g, le-leb n z l)
-
-pub ruleset judging = (volume-in, volume-out, judged-unknown, judged-over, judged-full, judged-well)
-
-pub judged-done : (rs es : List Row) (n : ℕ) → isDone (feedStatus rs es n) ≡ true
-    → (allKnown rs es ≡ true) × (every (volumeFits rs es) es ≡ true) × (leb n (room rs) ≡ true)
-unfolding feedStatus
-judged-done rs es n = go (allKnown rs es) (every (volumeFits rs es) es) (leb n (room rs))
-  where
-    go : (a b c : Bool) → isDone (cond a (cond b (cond c Done NoRoom) OverLimit) FeedNoSecurity) ≡ true
-        → (a ≡ true) × (b ≡ true) × (c ≡ true)
-    go true true true e = (refl, refl, refl)
-    go true true false e = absurd (false≢true e)
-    go true false c e = absurd (false≢true e)
-    go false b c e = absurd (false≢true e)
-
--- ---- it is the status that the rules define, if as many trades are submitted as requests are due
-module _ (rs es : List Row) where
-  abbrev start : Fed
-  start = record { rows = rs; trades = 0 }
-
-  abbrev status : Status
-  status = feedStatus rs es (count (due es) rs)
-
-  abbrev pub answered : Row
-  answered = new (kind ≔ kindFeed ∷ n1 ≔ length es ∷ n2 ≔ count (due es) rs ∷ [])
-
-  -- what a feed that is done gives
-  abbrev pub fed : Outcome
-  fed = accepted (answered ∷ []) (swept (run applied start es .rows))
-
-  module _ (counted : run applied start es .trades ≡ count (due es) rs) where
-    known : allKnown rs es ≡ true
-        → feed rs es ≡ limited (every (volumeFits rs es) es) (count (due es) rs) rs fed
-    unfolding feed volumeFits
-    known e = rw (e, volumes-fit start es e, counted)
-
-    unknown : allKnown rs es ≡ false → feed rs es ≡ refused FeedNoSecurity rs
-    unfolding feed
-    unknown e = rw e
-
-    judged : (feed rs es .status ≡ status) × (feed rs es ≡ pick (isDone status) fed (refused status rs))
-    unfolding feedStatus limited
-    judged =
-        go (allKnown rs es) (every (volumeFits rs es) es) (leb (count (due es) rs) (room rs)) refl refl refl
-      where
-        go : (a b c : Bool) → allKnown rs es ≡ a → every (volumeFits rs es) es ≡ b
-            → leb (count (due es) rs) (room rs) ≡ c
-            → (feed rs es .status ≡ status) × (feed rs es ≡ pick (isDone status) fed (refused status rs))
-        go true true true e f g = rw (known e, e, f, g) (refl, refl)
-        go true true false e f g = rw (known e, e, f, g) (refl, refl)
-        go true false c e f g = rw (known e, e, f) (refl, refl)
-        go false b c e f g = rw (unknown e, e) (refl, refl)
-
-    pub judged-status : feed rs es .status ≡ feedStatus rs es (count (due es) rs)
-    judged-status = judged .0
-
-    pub judged-outcome : isDone (feedStatus rs es (count (due es) rs)) ≡ true → feed rs es ≡ fed
-    judged-outcome e = judged .1 ∙ rw e
-
-    pub judged-refused : isDone (feedStatus rs es (count (due es) rs)) ≡ false
-        → feed rs es ≡ refused (feedStatus rs es (count (due es) rs)) rs
-    judged-refused e = judged .1 ∙ rw e
+  pub judged-done : {n : ℕ} → n ≡ count (due es) rs → isDone (verdict (checks rs es)) ≡ true
+      → (allKnown rs es ≡ true) × (every (volumeFits rs es) es ≡ true) × (leb n (room rs) ≡ true)
+  unfolding checks
+  judged-done c d =
+      let p = passed (checks rs es) refl d in (
+        p .0,
+        sym (volumes (p .0)) ∙ p .1 .0,
+        rw (c, ← trades-due rs es good) (p .1 .1 .0),
+      )

@@ -1,5 +1,5 @@
 -- The whole feed, as the code comes to it. Assumes nothing.
-use mathlib.Core.Path.{_≡_, sym, ap, _∙_}
+use mathlib.Core.Path.{_≡_, sym, ap, _∙_, refl}
 use mathlib.Core.Bool.{Bool, true, false, cond}
 use mathlib.Core.List.{List, [], _∷_, map}
 use Prim.Native.Nat.{ℕ, suc, _/_, _≤_, _<_}
@@ -7,24 +7,23 @@ use native.Mathlib.Omega.{arith}
 use lib.Dec.{leb}
 use lib.ListN.{length}
 use borrow.Author.Tests.{leb-true}
-use Rattle.laws.specs.Search.{count, keep, length-keep, run}
+use Rattle.laws.specs.Search.{count, keep, length-keep}
 use Rattle.record.specs.Bytes.{Bytes}
-use Rattle.record.specs.Codes.{kindFeed, kindFree}
+use Rattle.record.specs.Codes.{kindFree}
 use Rattle.record.specs.declared.row.Row.{Row}
-use Rattle.rules.specs.Ranges.{kind, n1, n2}
-use Rattle.model.specs.Call.{isDone}
-use Rattle.model.specs.Edit.{_≔_, new}
-use Rattle.model.specs.Feed.{applied, feed}
-use Rattle.model.specs.Plan.{refused, room}
+use Rattle.model.specs.Status.{isDone}
+use Rattle.model.specs.Feed.{answerRow, checks, fed, feed, swept}
+use Rattle.model.specs.Plan.{Outcome, accepted, decided, refused, room, verdict}
 use Rattle.model.specs.Rows.{is, mostRecords, recordSize, rows, wholeRecords}
 use Rattle.model.specs.Sound.{sound}
 use Rattle.model.specs.declared.Status.{Status}
 use Rattle.facts.specs.Rows.{length-rows}
+use Rattle.facts.specs.Checks.{decided-done, decided-refused}
+use Rattle.facts.specs.Status.{is-done}
 use Rattle.shelf.specs.Rows.{putAt}
 use Rattle.reply.specs.Left.{answerLeft, bookLeft, left-accepted, left-refused}
 use Rattle.feed.specs.Due.{swept-due, trades-due}
 use Rattle.feed.specs.Hits.{due}
-use Rattle.feed.specs.Judge.{answered, feedStatus, judged-outcome, judged-refused, judged-status}
 use Rattle.feed.specs.Sweep.{left}
 
 keep-most : {A : Type 0} (p : A → Bool) (l : List A) → length (keep p l) ≤ length l
@@ -36,32 +35,43 @@ keep-most p (x ∷ l) = go (p x) (keep-most p l)
     go true ih = omega arith
     go false ih = omega arith
 
+-- what a feed comes to
+outcome : (rs es : List Row)
+    → feed rs es
+    ≡ decided (checks rs es) rs
+    (accepted (answerRow (length es) (fed rs es .trades) ∷ []) (swept (fed rs es .rows)))
+unfolding feed
+outcome rs es = refl
+
 module _ (b input a : List ℕ) (good : sound (rows b) ≡ true) {s : Status} {n : ℕ} {x : Bool}
-    (c : n ≡ count (due (rows input)) (rows b)) (j : s ≡ feedStatus (rows b) (rows input) n) (d : x ≡ isDone s) where
-  status : s ≡ feedStatus (rows b) (rows input) (count (due (rows input)) (rows b))
-  status = j ∙ ap (feedStatus (rows b) (rows input)) c
+    (c : n ≡ count (due (rows input)) (rows b)) (j : s ≡ verdict (checks (rows b) (rows input))) (d : x ≡ isDone s)
+  where
+    abbrev Leaves : List ℕ → List ℕ → Type 0
+    Leaves b′ a′ =
+        (s ≡ feed (rows b) (rows input) .status) × (b′ ≡ bookLeft (feed (rows b) (rows input)) b)
+        × (a′ ≡ answerLeft (feed (rows b) (rows input)) a)
 
-  pub fed-refused : x ≡ false
-      → (s ≡ feed (rows b) (rows input) .status) × (b ≡ bookLeft (feed (rows b) (rows input)) b)
-      × (a ≡ answerLeft (feed (rows b) (rows input)) a)
-  fed-refused e =
-      let counted = trades-due (rows b) (rows input) good in
-      let o = judged-refused (rows b) (rows input) counted (ap isDone (sym status) ∙ sym d ∙ e) in
-      left-refused b a (o ∙ ap (λ (t : Status). refused t (rows b)) (sym status)) d e
+    pub fed-refused : x ≡ false → Leaves b a
+    fed-refused e =
+        left-refused b a
+        (outcome (rows b) (rows input)
+        ∙ decided-refused (checks (rows b) (rows input)) (rows b) _ (ap isDone (sym j) ∙ sym d ∙ e)
+        ∙ ap (λ (t : Status). refused t (rows b)) (sym j)) d e
 
-  pub fed-done : (b₁ b₂ : List ℕ) {a′ : List ℕ} {r : Row} {m : ℕ} → x ≡ true
-      → rows b₁ ≡ run applied (record { rows = rows b; trades = 0 }) (rows input) .rows
-      → rows b₂ ≡ map (left (rows input)) (rows b₁) → wholeRecords mostRecords (length b) ≡ true
-      → length b₂ ≡ length b → Bytes b₂ → length a ≡ recordSize → m ≡ length input / 64
-      → r ≡ new (kind ≔ kindFeed ∷ n1 ≔ m ∷ n2 ≔ n ∷ []) → a′ ≡ putAt a 0 r
-      → (s ≡ feed (rows b) (rows input) .status) × (b₂ ≡ bookLeft (feed (rows b) (rows input)) b)
-      × (a′ ≡ answerLeft (feed (rows b) (rows input)) a)
-  fed-done b₁ b₂ {a′} {r} {m} e p q w l y k u g h =
-      let counted = trades-due (rows b) (rows input) good in
-      let o = judged-outcome (rows b) (rows input) counted (ap isDone (sym status) ∙ sym d ∙ e) in
-      let posted = q ∙ ap (map (left (rows input))) p ∙ sym (swept-due (rows b) (rows input) good) in
-      let row : r ≡ answered (rows b) (rows input) = g ∙ rw (u, ← length-rows input, c) in
-      left-accepted b a b₂ o (status ∙ sym (judged-status (rows b) (rows input) counted)) posted w l y k row h
+    pub fed-done : (b₁ b₂ : List ℕ) {a′ : List ℕ} {r : Row} {m : ℕ} → x ≡ true
+        → rows b₁ ≡ fed (rows b) (rows input) .rows → rows b₂ ≡ map (left (rows input)) (rows b₁)
+        → wholeRecords mostRecords (length b) ≡ true → length b₂ ≡ length b → Bytes b₂ → length a ≡ recordSize
+        → m ≡ length input / 64 → r ≡ answerRow m n → a′ ≡ putAt a 0 r → Leaves b₂ a′
+    fed-done b₁ b₂ {a′} {r} {m} e p q w l y k u g h =
+        let o =
+        outcome (rows b) (rows input)
+        ∙ decided-done (checks (rows b) (rows input)) (rows b) _ (ap isDone (sym j) ∙ sym d ∙ e)
+        in
+        let posted = q ∙ ap (map (left (rows input))) p ∙ sym (swept-due (rows b) (rows input) good) in
+        let row : r ≡ answerRow (length (rows input)) (fed (rows b) (rows input) .trades) =
+        g ∙ rw (u, ← length-rows input, c, ← trades-due (rows b) (rows input) good)
+        in
+        left-accepted b a b₂ o (is-done s (sym d ∙ e) ∙ sym (ap (λ (x : Outcome). x .status) o)) posted w l y k row h
 
 -- an answer's numbers are small
 pub few-trades : (b : List ℕ) (n : ℕ) → length b / 64 ≤ mostRecords → leb n (room (rows b)) ≡ true → n < 4294967296

@@ -7,17 +7,21 @@ ghost use lib.ListN.{length};
 ghost use Rattle.laws.specs.Search.{count, every};
 ghost use Rattle.model.specs.Call.{mostInputs};
 ghost use Rattle.model.specs.Rows.{rows, wholeRecords};
+ghost use Rattle.model.specs.Plan.{verdict};
+ghost use Rattle.model.specs.Feed.{checks};
+ghost use Rattle.model.specs.Sound.{sound};
 ghost use Rattle.facts.specs.Feed.{sharesFor};
 ghost use Rattle.tables.specs.Bucket.{steadyBucket};
 ghost use Rattle.tables.specs.Table.{Indexed};
 ghost use Rattle.feed.specs.Hits.{due, hitBy, hits};
-ghost use Rattle.feed.specs.Judge.{allKnown, feedStatus, volumeFits};
+ghost use Rattle.feed.specs.Judge.{allKnown, volumeFits};
 use kinds::limits::Ranges;
 use model::Status;
 use record::codes::Kind;
 use record::codes::TradeType;
 use record::row::Grid;
 use record::row::Row;
+use reply::also;
 use shelf::count::bit;
 use shelf::count::room;
 use shelf::place::row_at;
@@ -149,20 +153,19 @@ fn volumes_fit(book: &[u8], steady: &[u16; Slots::ALL], input: &[u8]) -> bool
     true
 }
 
-// The status of a feed that submits so many trades.
+// The checks of the rules, one after the other, of a feed that submits so many trades.
 pub fn judge(book: &[u8], steady: &[u16; Slots::ALL], input: &[u8], trades: usize) -> Status
     requires { ⌜ Indexed steadyBucket (now book) (now steady) 0 ⌝ }
     requires { ⌜ wholeRecords mostInputs (length (now input)) ≡ true ⌝ }
-    ensures { λ s. ⌜ s ≡ feedStatus (rows (now (book .entry))) (rows (now (input .entry))) trades ⌝ }
+    requires { ⌜ sound (rows (now book)) ≡ true ⌝ }
+    requires { ⌜ trades ≡ count (due (rows (now input))) (rows (now book)) ⌝ }
+    ensures { λ s. ⌜ s ≡ verdict (checks (rows (now (book .entry))) (rows (now (input .entry)))) ⌝ }
 {
-    if all_known(book, steady, input) {
-        if volumes_fit(book, steady, input) {
-            if trades <= room(book) {
-                return Status::Done;
-            }
-            return Status::NoRoom;
-        }
-        return Status::OverLimit;
-    }
-    Status::FeedNoSecurity
+    let s1 = also(
+        Status::Done,
+        all_known(book, steady, input),
+        Status::FeedNoSecurity,
+    );
+    let s2 = also(s1, volumes_fit(book, steady, input), Status::OverLimit);
+    also(s2, trades <= room(book), Status::NoRoom)
 }

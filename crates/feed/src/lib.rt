@@ -1,14 +1,10 @@
 // Market-Feed, on a book that is known to be sound: the entries are judged on the book as it is, and then applied.
 ghost use mathlib.Core.Path.{_≡_};
 ghost use mathlib.Core.Bool.{true};
-ghost use mathlib.Core.List.{[], _∷_};
 ghost use Prim.Native.Nat.{_<_};
 ghost use lib.ListN.{length};
-ghost use Rattle.record.specs.Codes.{kindFeed};
-ghost use Rattle.rules.specs.Ranges.{kind, n1, n2};
 ghost use Rattle.model.specs.Call.{mostInputs};
-ghost use Rattle.model.specs.Edit.{_≔_, new};
-ghost use Rattle.model.specs.Feed.{feed};
+ghost use Rattle.model.specs.Feed.{answerRow, feed};
 ghost use Rattle.model.specs.Rows.{mostRecords, recordSize, rows, wholeRecords};
 ghost use Rattle.model.specs.Sound.{sound};
 ghost use Rattle.reply.specs.Left.{answerLeft, bookLeft};
@@ -33,7 +29,7 @@ use tables::table::Slots;
 
 fn answer_row(entries: usize, trades: usize) -> Row
     requires { ⌜ (entries < 4294967296) × (trades < 4294967296) ⌝ }
-    ensures { λ r. ⌜ r ≡ new (kind ≔ kindFeed ∷ n1 ≔ entries ∷ n2 ≔ trades ∷ []) ⌝ }
+    ensures { λ r. ⌜ r ≡ answerRow entries trades ⌝ }
 {
     let mut r = nothing();
     r.kind = Kind::FEED;

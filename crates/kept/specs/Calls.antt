@@ -12,8 +12,9 @@ use borrow.Author.Tests.{eqb-true, leb-true}
 use Rattle.laws.specs.Tests.{and-left, and-right}
 use Rattle.record.specs.Grid.{decode}
 use Rattle.record.specs.declared.row.Row.{Row}
-use Rattle.model.specs.Call.{Call, Reply, aFeed, aLookup, aResult, anOrder, choose, decideOf, fieldsOf, isDone}
-use Rattle.model.specs.Call.{lengthsOf, replied, run, shell}
+use Rattle.model.specs.Status.{isDone}
+use Rattle.model.specs.Call.{Call, Reply, aFeed, aLookup, aResult, anOrder, choose, decideOf, fieldsOf, lengthsOf}
+use Rattle.model.specs.Call.{replied, run, shell}
 use Rattle.model.specs.Plan.{Outcome, pick, refused}
 use Rattle.model.specs.Result.{result}
 use Rattle.model.specs.Rows.{bytes, mostRecords, recordSize, rows, wholeRecords}

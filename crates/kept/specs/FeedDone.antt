@@ -1,7 +1,7 @@
 -- A feed that is done: what it leaves, and that its steps lead there. A feed leaves as many places as there were.
 -- Assumes nothing.
-use mathlib.Core.Path.{_≡_, refl, _∙_}
-use mathlib.Core.Bool.{Bool, true, false, false≢true}
+use mathlib.Core.Path.{_≡_, refl, _∙_, ap, sym}
+use mathlib.Core.Bool.{Bool, true, false}
 use mathlib.Core.List.{List, [], _∷_}
 use native.Mathlib.Omega.{arith}
 use lib.Dec.{leb}
@@ -11,22 +11,18 @@ use Rattle.laws.specs.Change.{put}
 use Rattle.laws.specs.Search.{every, run}
 use Rattle.record.specs.declared.row.Row.{Row}
 use Rattle.rules.specs.Rules.{feedInput}
-use Rattle.model.specs.Call.{isDone}
-use Rattle.model.specs.Feed.{Fed, applied, feed, submit, submits, swept, traded, volumesFit}
+use Rattle.model.specs.Status.{isDone}
+use Rattle.model.specs.Feed.{Fed, answerRow, applied, checks, fed, feed, submit, submits, swept, traded, volumesFit}
 use Rattle.model.specs.Names.{aRequest, aSecurity}
-use Rattle.model.specs.Plan.{accepted, limited, pick, refused, room}
+use Rattle.model.specs.Plan.{Outcome, accepted, decided, pick, refused, room, verdict}
 use Rattle.model.specs.Rows.{found, nothing, sameRow, there}
 use Rattle.model.specs.Sound.{sound}
 use Rattle.model.specs.SoundMeans.{means-sound}
-use Rattle.model.specs.declared.Status.the-variants.{FeedNoSecurity, NoRoom, OverLimit}
+use Rattle.facts.specs.Checks.{decided-done, decided-status, passed}
 use Rattle.kept.specs.Bytes.{put-length}
 use Rattle.kept.specs.FeedSteps.{Leads, entries-lead}
 use Rattle.kept.specs.ResultBase.{room-is}
 use Rattle.kept.specs.ResultFresh.{one-key}
-
--- the rows when all entries are applied
-abbrev pub fed : List Row → List Row → Fed
-fed rs es = run applied (record { rows = rs; trades = 0 }) es
 
 pub record Done (rs es : List Row) : Type 0 where
   pub known : every (λ (e : Row). there (aSecurity (e .symbol)) rs) es ≡ true
@@ -35,17 +31,18 @@ pub record Done (rs es : List Row) : Type 0 where
   pub rows : feed rs es .rows ≡ swept (fed rs es .rows)
 
 pub feed-done : (rs es : List Row) → isDone (feed rs es .status) ≡ true → Done rs es
-unfolding feed limited
-feed-done rs es d =
-    go (every (λ (e : Row). there (aSecurity (e .symbol)) rs) es) (volumesFit (fed rs es .rows) es)
-    (leb (fed rs es .trades) (room rs)) refl refl refl
-  where
-    go : (a b c : Bool) → every (λ (e : Row). there (aSecurity (e .symbol)) rs) es ≡ a
-        → volumesFit (fed rs es .rows) es ≡ b → leb (fed rs es .trades) (room rs) ≡ c → Done rs es
-    go true true true k v s = record { known = k; volumes = v; space = s; rows = rw (k, v, s) }
-    go true true false k v s = absurd (false≢true (rw (k, v, s) at d))
-    go true false c k v s = absurd (false≢true (rw (k, v) at d))
-    go false b c k v s = absurd (false≢true (rw k at d))
+unfolding feed checks
+feed-done rs es k =
+    let cs = checks rs es in
+    let o = accepted (answerRow (length es) (fed rs es .trades) ∷ []) (swept (fed rs es .rows)) in
+    let d = ap isDone (sym (decided-status cs rs o refl)) ∙ k in
+    let p = passed cs refl d in
+    record {
+      known = p .0;
+      volumes = p .1 .0;
+      space = p .1 .1 .0;
+      rows = ap (λ (x : Outcome). x .rows) (decided-done cs rs o d);
+    }
 
 pub feed-leads : (rs es : List Row) → sound rs ≡ true → every feedInput es ≡ true → Done rs es
     → Leads rs (fed rs es .rows)
@@ -71,15 +68,11 @@ length-entries f (e ∷ es) =
     length-entries (applied f e) es ∙ length-submits e rs (submits rs e) ∙ put-length s (traded e s) (f .rows)
 
 pub feed-length : (rs es : List Row) → length (feed rs es .rows) ≡ length rs
-unfolding feed limited swept
-feed-length rs es =
-    go (every (λ (e : Row). there (aSecurity (e .symbol)) rs) es) (volumesFit (fed rs es .rows) es)
-    (leb (fed rs es .trades) (room rs)) _
+unfolding feed decided swept
+feed-length rs es = go (isDone (verdict (checks rs es))) _
   where
-    go : (a b c : Bool) (answer : List Row)
-        → length (pick a (pick b (pick c (accepted answer (swept (fed rs es .rows))) (refused NoRoom rs))
-        (refused OverLimit rs)) (refused FeedNoSecurity rs) .rows) ≡ length rs
-    go true true true answer = length-map (fed rs es .rows) _ ∙ length-entries (record { rows = rs; trades = 0 }) es
-    go true true false answer = refl
-    go true false c answer = refl
-    go false b c answer = refl
+    go : (t : Bool) (answer : List Row)
+        → length (pick t (accepted answer (swept (fed rs es .rows))) (refused (verdict (checks rs es)) rs) .rows)
+        ≡ length rs
+    go true answer = length-map (fed rs es .rows) _ ∙ length-entries (record { rows = rs; trades = 0 }) es
+    go false answer = refl

@@ -5,11 +5,11 @@ use mathlib.Core.List.{List}
 use Rattle.laws.specs.Search.{every}
 use Rattle.record.specs.declared.row.Row.{Row}
 use Rattle.rules.specs.Rules.{feedInput}
-use Rattle.model.specs.Call.{isDone}
-use Rattle.model.specs.Feed.{feed, swept}
+use Rattle.model.specs.Status.{isDone}
+use Rattle.model.specs.Feed.{fed, feed, swept}
 use Rattle.model.specs.Sound.{sound}
 use Rattle.model.specs.SoundMeans.{means-sound}
-use Rattle.kept.specs.FeedDone.{fed, feed-done, feed-leads}
+use Rattle.kept.specs.FeedDone.{feed-done, feed-leads}
 use Rattle.kept.specs.FeedFits.{s1-feed}
 use Rattle.kept.specs.FeedKeys.{s2-feed, s7-feed}
 use Rattle.kept.specs.FeedRequests.{s6-feed}

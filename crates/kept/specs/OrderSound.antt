@@ -1,12 +1,11 @@
 -- An accepted order leaves a sound book: S1 to S10 together. Assumes nothing.
-use mathlib.Core.Path.{_≡_, refl, ap, _∙_}
-use mathlib.Core.Bool.{Bool, true, false, cond, false≢true}
-use mathlib.Core.List.{List}
+use mathlib.Core.Path.{_≡_, refl, sym, ap, _∙_}
+use mathlib.Core.Bool.{Bool, true, false, cond}
+use mathlib.Core.List.{List, [], _∷_}
 use Prim.Native.Nat.{ℕ, _≤_}
 use native.Mathlib.Omega.{arith}
-use lib.Dec.{leb}
 use lib.ListN.{length}
-use borrow.Author.Tests.{leb-false, leb-true}
+use borrow.Author.Tests.{leb-false, leb-true, not-true}
 use Rattle.laws.specs.Change.{fill, puts, written}
 use Rattle.laws.specs.Search.{count}
 use Rattle.record.specs.Codes.{kindCharge, kindFree, kindSecurity, tms}
@@ -15,13 +14,13 @@ use Rattle.record.specs.declared.row.Row.{Row}
 use Rattle.rules.specs.Meaning.{means-charge, means-fits, means-order-input, means-security}
 use Rattle.rules.specs.Ranges.{charged, fee, priceMost, tradeNumber}
 use Rattle.rules.specs.Rules.{as-kind, orderInput}
-use Rattle.model.specs.Call.{isDone}
+use Rattle.model.specs.Status.{isDone}
 use Rattle.model.specs.Flags.{rollBack}
-use Rattle.model.specs.Money.{commissionOf, untaxed}
+use Rattle.model.specs.Money.{commissionOf}
 use Rattle.model.specs.Names.{aCharge, aCustomer, aSecurity, anAccount}
-use Rattle.model.specs.Order.{View, addedRows, atMarket, finish, nextNumber, order, plan, posting, priceUsed, view}
-use Rattle.model.specs.Order.{walked}
-use Rattle.model.specs.Plan.{checked, finished, limited, posted, room}
+use Rattle.model.specs.Order.{View, addedRows, atMarket, checks, nextNumber, order, posting, priceUsed, rowsAfter}
+use Rattle.model.specs.Order.{view}
+use Rattle.model.specs.Plan.{Outcome, accepted, posted, room}
 use Rattle.model.specs.Rows.{found, hasKey, is, nothing, sameRow, there}
 use Rattle.model.specs.Sound.{sound}
 use Rattle.model.specs.SoundMeans.{There, means-sound}
@@ -30,6 +29,7 @@ use Rattle.facts.specs.Money.{commission-taken}
 use Rattle.facts.specs.Most.{price-most, rate-most}
 use Rattle.facts.specs.Keys.{key-kind}
 use Rattle.facts.specs.Posted.{adds, fill-puts}
+use Rattle.facts.specs.Checks.{decided-done, decided-status, passed}
 use Rattle.kept.specs.Bytes.{puts-length}
 use Rattle.kept.specs.OrderFits.{fits-left}
 use Rattle.kept.specs.OrderFound.{done-left, lots-left, settlements-left}
@@ -48,48 +48,20 @@ record Passed (rs : List Row) (input : Row) : Type 0 where
       ≡ cond (rollBack (input .flags)) rs (fill sameRow nothing (posting input (view rs input) .added) rs)
 
 passed-all : (rs : List Row) (input : Row) → isDone (order rs input .status) ≡ true → Passed rs input
-unfolding order plan checked finish finished limited posted written puts posting
-passed-all rs input =
-    go (is kindFree (v .account)) (is kindFree (v .security)) untax (leb 1 (v .rate)) (leb 1 (v .charge))
-    (leb (v .number) (tradeNumber .high)) (leb (length (posting input v .added)) (room rs)) (rollBack (input .flags))
-    refl refl refl refl refl refl refl refl
-  where
-    v : View
-    v = view rs input
-
-    untax : Bool
-    untax = untaxed (v .account .form) (v .rates) (walked input v .bought) (walked input v .sold)
-
-    go : (a b c d e f g h : Bool) → is kindFree (v .account) ≡ a → is kindFree (v .security) ≡ b → untax ≡ c
-        → leb 1 (v .rate) ≡ d → leb 1 (v .charge) ≡ e → leb (v .number) (tradeNumber .high) ≡ f
-        → leb (length (posting input v .added)) (room rs) ≡ g → rollBack (input .flags) ≡ h
-        → isDone (order rs input .status) ≡ true → Passed rs input
-    go true b c d e f g h ea eb ec ed ee ef eg eh k = absurd (false≢true (rw ea at k))
-    go false true c d e f g h ea eb ec ed ee ef eg eh k = absurd (false≢true (rw (ea, eb) at k))
-    go false false true d e f g h ea eb ec ed ee ef eg eh k = absurd (false≢true (rw (ea, eb, ec) at k))
-    go false false false false e f g h ea eb ec ed ee ef eg eh k = absurd (false≢true (rw (ea, eb, ec, ed) at k))
-    go false false false true false f g h ea eb ec ed ee ef eg eh k =
-        absurd (false≢true (rw (ea, eb, ec, ed, ee) at k))
-    go false false false true true false g true ea eb ec ed ee ef eg eh k =
-        absurd (false≢true (rw (ea, eb, ec, ed, ee, ef, eh) at k))
-    go false false false true true false g false ea eb ec ed ee ef eg eh k =
-        absurd (false≢true (rw (ea, eb, ec, ed, ee, ef, eh) at k))
-    go false false false true true true false true ea eb ec ed ee ef eg eh k =
-        absurd (false≢true (rw (ea, eb, ec, ed, ee, ef, eg, eh) at k))
-    go false false false true true true false false ea eb ec ed ee ef eg eh k =
-        absurd (false≢true (rw (ea, eb, ec, ed, ee, ef, eg, eh) at k))
-    go false false false true true true true h ea eb ec ed ee ef eg eh k = record {
-      account = ea;
-      security = eb;
-      number = leb-true (v .number) (tradeNumber .high) ef;
-      space = leb-true (length (posting input v .added)) (room rs) eg;
-      rows = last h eh;
+unfolding order checks posting posted written puts
+passed-all rs input k =
+    let v = view rs input in
+    let cs = checks rs input v in
+    let o = accepted (posting input v .answer ∷ []) (rowsAfter rs input (posting input v)) in
+    let d = ap isDone (sym (decided-status cs rs o refl)) ∙ k in
+    let p = passed cs refl d in
+    record {
+      account = not-true (is kindFree (v .account)) (p .0);
+      security = not-true (is kindFree (v .security)) (p .1 .0);
+      number = leb-true (v .number) (tradeNumber .high) (p .1 .1 .1 .1 .1 .0);
+      space = leb-true (length (posting input v .added)) (room rs) (p .1 .1 .1 .1 .1 .1 .0);
+      rows = ap (λ (x : Outcome). x .rows) (decided-done cs rs o d);
     }
-      where
-        last : (h : Bool) → rollBack (input .flags) ≡ h
-            → order rs input .rows ≡ cond (rollBack (input .flags)) rs (fill sameRow nothing (posting input v .added) rs)
-        last true e = rw (ea, eb, ec, ed, ee, ef, eg, e)
-        last false e = rw (ea, eb, ec, ed, ee, ef, eg, e)
 
 module _ (rs : List Row) (input : Row) (good : sound rs ≡ true) (right : orderInput input ≡ true) where
   abbrev v : View

@@ -11,7 +11,8 @@ use borrow.Author.Tests.{eq-eqb, eqb-false, eqb-true}
 use Rattle.laws.specs.All.{All}
 use Rattle.laws.specs.Change.{puts}
 use Rattle.laws.specs.Search.{count, the, total}
-use Rattle.laws.specs.Puts.{Inside, More, Quiet, each-row, has-come, mem-map, no-fewer, no-more, puts-total, the-puts}
+use Rattle.laws.specs.Puts.{Inside, More, Quiet, each-row, has-come, mem-map, no-fewer, no-more, puts-total}
+use Rattle.laws.specs.Puts.{same-sums, the-puts}
 use Rattle.record.specs.Codes.{kindAccount, kindBroker, kindCash, kindFree, kindSettlement, kindTrade}
 use Rattle.record.specs.Codes.{kindTradeHistory}
 use Rattle.record.specs.Key.{among, keyOf, sameKey}
@@ -23,7 +24,7 @@ use Rattle.model.specs.Result.{Sums, added, brokerWrite, tradeWrite}
 use Rattle.facts.specs.Rows.{row-itself, same-rows}
 use Rattle.facts.specs.Keys.{OfKind, key-kind, key-of, kind-of}
 use Rattle.facts.specs.Result.{Read, broker-key, holding-key, trade-key, writes}
-use Rattle.facts.specs.Posted.{adds, same-sums}
+use Rattle.facts.specs.Posted.{adds}
 use Rattle.kept.specs.Cases.{no, not-among}
 use Rattle.kept.specs.ResultBase.{all, all-inside}
 use Rattle.kept.specs.ResultEach.{by-kind, lotKinds}

@@ -5,9 +5,9 @@ use mathlib.Core.Bool.{Bool, true, false, false≢true}
 use mathlib.Core.List.{List, [], _∷_, _++_, List·Memᴰ}
 use Prim.Native.Nat.{_+_, _≤_}
 use native.Mathlib.Omega.{arith}
-use lib.Dec.{eqb, leb}
+use lib.Dec.{leb}
 use lib.ListN.{length}
-use borrow.Author.Tests.{eq-eqb, eqb-true, leb-false, leb-true}
+use borrow.Author.Tests.{eq-eqb, eqb-true, leb-false, leb-true, not-true}
 use Rattle.laws.specs.All.{all-map, all-one}
 use Rattle.laws.specs.Change.{puts}
 use Rattle.laws.specs.Keep.{count-append, count-map, count-none, count-on}
@@ -19,21 +19,21 @@ use Rattle.record.specs.Key.{keyOf}
 use Rattle.record.specs.KeyLaws.{key-itself}
 use Rattle.record.specs.declared.row.Row.{Row}
 use Rattle.rules.specs.Meaning.{Fits}
-use Rattle.model.specs.Call.{isDone}
+use Rattle.model.specs.Status.{isDone}
 use Rattle.model.specs.Lots.{Closing}
-use Rattle.model.specs.Money.{untaxed}
 use Rattle.model.specs.Names.{aBroker}
-use Rattle.model.specs.Plan.{Plan, Posting, checked, finished, limited, post, posted, refuse, refused, room}
-use Rattle.model.specs.Result.{Figures, Sums, View, added, figures, finish, plan, posting, result, sumsOf, view}
-use Rattle.model.specs.Result.{withBroker, within}
+use Rattle.model.specs.Plan.{Check, Outcome, Posting, accepted, posted, refused, room, verdict}
+use Rattle.model.specs.Result.{Sums, added, checks, figures, posting, result, sumsOf, view, withBroker, within}
 use Rattle.model.specs.Rows.{found, hasKey, is, nothing, sameRow}
 use Rattle.model.specs.Sound.{sound}
 use Rattle.model.specs.SoundMeans.{means-s1, means-sound}
+use Rattle.model.specs.declared.Status.{Status}
 use Rattle.facts.specs.Rows.{clean-fit, row-itself, same-rows}
 use Rattle.facts.specs.Sound.{once}
 use Rattle.facts.specs.Result.{Read, all-own, reads, writes-once}
 use Rattle.facts.specs.Result
 use Rattle.facts.specs.Posted.{adds, posted-puts, writes}
+use Rattle.facts.specs.Checks.{decided-done, decided-refused, decided-status, passed}
 
 -- what a result posts on these rows
 abbrev pub postingOf : List Row → Row → Posting
@@ -51,67 +51,35 @@ pub record Accepted (rs : List Row) (input : Row) : Type 0 where
   pub answer : result rs input .answer ≡ postingOf rs input .answer ∷ []
   pub rows : result rs input .rows ≡ posted (postingOf rs input) rs
 
-pub accepted-all : (rs : List Row) (input : Row) → isDone (result rs input .status) ≡ true → Accepted rs input
-unfolding result plan checked finish finished limited
-accepted-all rs input =
-    go (is kindFree (v .trade)) (eqb (v .trade .status) submitted) untax (leb 1 (v .rate)) inside
-    (leb (length (postingOf rs input .added)) (room rs)) refl refl refl refl refl refl
-  where
-    v : View
-    v = view rs input
+module _ (rs : List Row) (input : Row) where
+  abbrev tests : List Check
+  tests = let v = view rs input in checks rs input v (figures input v)
 
-    f : Figures
-    f = figures input v
+  status-is : result rs input .status ≡ verdict tests
+  unfolding result
+  status-is = decided-status tests rs _ refl
 
-    b : Row
-    b = found (aBroker (v .account .n1)) rs
+  pub accepted-all : isDone (result rs input .status) ≡ true → Accepted rs input
+  unfolding result checks
+  accepted-all k =
+      let d = ap isDone (sym status-is) ∙ k in
+      let done = decided-done tests rs (accepted (postingOf rs input .answer ∷ []) (posted (postingOf rs input) rs)) d in
+      let p = passed tests refl d in
+      record {
+        live = not-true (is kindFree (view rs input .trade)) (p .0);
+        sent = eqb-true (view rs input .trade .status) submitted (p .1 .0);
+        within = p .1 .1 .1 .1 .0;
+        space = leb-true (length (postingOf rs input .added)) (room rs) (p .1 .1 .1 .1 .1 .0);
+        answer = ap (λ (o : Outcome). o .answer) done;
+        rows = ap (λ (o : Outcome). o .rows) done;
+      }
 
-    untax : Bool
-    untax = untaxed (v .account .form) (v .rates) (f .walked .bought) (f .walked .sold)
-
-    inside : Bool
-    inside = within b f
-
-    go : (a c d e g h : Bool) → is kindFree (v .trade) ≡ a → eqb (v .trade .status) submitted ≡ c → untax ≡ d
-        → leb 1 (v .rate) ≡ e → inside ≡ g → leb (length (postingOf rs input .added)) (room rs) ≡ h
-        → isDone (result rs input .status) ≡ true → Accepted rs input
-    go true c d e g h ea ec ed ee eg eh k = absurd (false≢true (rw ea at k))
-    go false false d e g h ea ec ed ee eg eh k = absurd (false≢true (rw (ea, ec) at k))
-    go false true true e g h ea ec ed ee eg eh k = absurd (false≢true (rw (ea, ec, ed) at k))
-    go false true false false g h ea ec ed ee eg eh k = absurd (false≢true (rw (ea, ec, ed, ee) at k))
-    go false true false true false h ea ec ed ee eg eh k = absurd (false≢true (rw (ea, ec, ed, ee, eg) at k))
-    go false true false true true false ea ec ed ee eg eh k =
-        absurd (false≢true (rw (ea, ec, ed, ee, eg, eh) at k))
-    go false true false true true true ea ec ed ee eg eh k = record {
-      live = ea;
-      sent = eqb-true (v .trade .status) submitted ec;
-      within = eg;
-      space = leb-true (length (postingOf rs input .added)) (room rs) eh;
-      answer = rw (ea, ec, ed, ee, eg, eh);
-      rows = rw (ea, ec, ed, ee, eg, eh);
-    }
-
--- one that is not done changes and answers nothing
-refused-plan : (rs : List Row) (a : Row) (f : Figures) (p : Plan) → isDone (finish rs a f p .status) ≡ false
-    → finish rs a f p ≡ refused (finish rs a f p .status) rs
-unfolding finish finished limited
-refused-plan rs a f (refuse s) d = refl
-refused-plan rs a f (post p) d = go (within b f) (leb (length (p .added)) (room rs)) refl refl
-  where
-    b : Row
-    b = found (aBroker (a .n1)) rs
-
-    go : (g h : Bool) → within b f ≡ g → leb (length (p .added)) (room rs) ≡ h
-        → finish rs a f (post p) ≡ refused (finish rs a f (post p) .status) rs
-    go true true eg eh = absurd (false≢true (sym d ∙ rw (eg, eh)))
-    go true false eg eh = rw (eg, eh)
-    go false h eg eh = rw eg
-
-pub refused-all : (rs : List Row) (input : Row) → isDone (result rs input .status) ≡ false
-    → result rs input ≡ refused (result rs input .status) rs
-unfolding result
-refused-all rs input d =
-    let v = view rs input in refused-plan rs (v .account) (figures input v) (plan input v) d
+  -- one that is not done changes and answers nothing
+  pub refused-all : isDone (result rs input .status) ≡ false → result rs input ≡ refused (result rs input .status) rs
+  unfolding result
+  refused-all k =
+      decided-refused tests rs _ (ap isDone (sym status-is) ∙ k)
+      ∙ ap (λ (s : Status). refused s rs) (sym status-is)
 
 -- a free place of a sound book holds nothing
 pub free-nothing : (rs : List Row) → sound rs ≡ true → (x : Row) → List·Memᴰ x rs → x .kind ≡ kindFree → x ≡ nothing

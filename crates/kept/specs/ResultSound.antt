@@ -6,7 +6,7 @@ use Prim.Native.Nat.{_≤_}
 use lib.ListN.{length}
 use Rattle.record.specs.declared.row.Row.{Row}
 use Rattle.rules.specs.Rules.{resultInput}
-use Rattle.model.specs.Call.{isDone}
+use Rattle.model.specs.Status.{isDone}
 use Rattle.model.specs.Result.{result}
 use Rattle.model.specs.Rows.{mostRecords}
 use Rattle.model.specs.Sound.{sound}

@@ -1,6 +1,6 @@
 -- Rows put in the places of others, one after the other: what is summed and counted then, which rows are there that were
 -- not, which stay, and what is found. Assumes nothing.
-use mathlib.Core.Path.{_≡_, refl, ap, _∙_}
+use mathlib.Core.Path.{_≡_, refl, ap, _∙_, sym}
 use mathlib.Core.Bool.{Bool, true, false}
 use mathlib.Core.List.{List, [], _∷_, map, List·Memᴰ, List·Memᴰ·head, List·Memᴰ·tail}
 use mathlib.Core.Logic.{_⊎_, inl, inr, ⊎-elim}
@@ -8,12 +8,13 @@ use Prim.Native.Nat.{ℕ, _+_, _≤_}
 use native.Mathlib.Omega.{arith}
 use lib.Dec.{leb}
 use borrow.Author.Tests.{leb-false, leb-true, le-leb}
-use Rattle.laws.specs.Change.{put, puts, the-other}
-use Rattle.laws.specs.Keep.{count-has, count-map, count-on, count-none, count-one, the-has}
-use Rattle.laws.specs.Search.{bit, count, total, the}
 use lib.ListN.{length}
+use Rattle.laws.specs.Change.{put, puts, the-other}
+use Rattle.laws.specs.Keep.{count-has, count-map, count-none, count-on, count-one, the-has}
+use Rattle.laws.specs.Search.{bit, count, the, total}
 use Rattle.laws.specs.All.{All, all-map}
 use Rattle.laws.specs.Place.{the-passes}
+use Rattle.laws.specs.Total.{total-map, total-on}
 
 -- the rows that give way, and those that come
 abbrev pub olds : {A : Type 0} → List (A × A) → List A
@@ -194,3 +195,9 @@ module _ {A : Type 0} (same : A → A → Bool) (tells : (a b : A) → same a b 
 
     pub has-come : (w : A × A) → List·Memᴰ w ws → List·Memᴰ (w .1) (puts same ws l)
     has-come w m = puts-comes same tells itself ws l inside (w .1) (mem-map (λ (v : A × A). v .1) w ws m)
+
+-- what is summed over the rows that come is what is summed over those that give way, where it is so of each
+pub same-sums : {A : Type 0} (μ : A → ℕ) (ws : List (A × A)) → All (λ (w : A × A). μ (w .0) ≡ μ (w .1)) ws
+    → total μ (olds ws) ≡ total μ (news ws)
+same-sums μ ws h =
+    total-map μ (λ w. w .0) ws ∙ total-on (λ w. μ (w .0)) (λ w. μ (w .1)) ws h ∙ sym (total-map μ (λ w. w .1) ws)

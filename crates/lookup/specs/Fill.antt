@@ -8,18 +8,23 @@ use lib.Dec.{eqb, leb}
 use lib.ListN.{length, drop, set, drop-of-length-le}
 use lib.Seq.{sets, sets-eq}
 use borrow.Author.Tests.{eq-eqb, eqb-true, le-leb, leb-true}
-use Rattle.laws.specs.Search.{every}
+use Rattle.laws.specs.Search.{every, run}
 use Rattle.laws.specs.Tests.{and-both, and-left, and-right}
 use Rattle.laws.specs.Walk.{left-next, left-none}
 use Rattle.record.specs.declared.row.Row.{Row}
 use Rattle.record.specs.Bytes.{Bytes}
 use Rattle.model.specs.Call.{mostInputs}
-use Rattle.model.specs.Lookup.{looked, lookup}
+use Rattle.model.specs.Lookup.{checks, looked, lookup}
 use Rattle.model.specs.Names.{aSettlement, aTrade}
 use Rattle.model.specs.Rows.{bytes, found, nothing, rows, there, wholeRecords}
 use Rattle.model.specs.RowsLaws.{bytes-rows}
 use Rattle.model.specs.declared.Status.the-variants.{Done, LookupNoTrade}
+use Rattle.model.specs.Plan.{accepted, also, verdict}
+use Rattle.model.specs.Status.{isDone}
+use Rattle.model.specs.declared.Status.{Status}
 use Rattle.facts.specs.Rows.{length-rows}
+use Rattle.facts.specs.Checks.{decided-done, decided-refused}
+use Rattle.facts.specs.Status.{is-done}
 use Rattle.shelf.specs.Rows.{rowAt}
 use Rattle.reply.specs.Left.{answerLeft}
 
@@ -84,19 +89,33 @@ whole rs input area e =
 pub ruleset fills = (fill-start, fill-more, fill-all)
 
 -- ---- the whole lookup
-module _ (b input area : List ℕ) where
-  pub found-all : {x : Bool} {a : List ℕ} → x ≡ allKnown (rows b) (rows input) → x ≡ true
-      → wholeRecords (mostInputs * 2) (length a) ≡ true → Bytes a → rows a ≡ looked (rows b) (rows input)
-      → (Done ≡ lookup (rows b) (rows input) .status) × (a ≡ answerLeft (lookup (rows b) (rows input)) area)
-  unfolding lookup answerLeft
-  found-all {a = a} h e w y q =
-      let k = sym h ∙ e in
-      (rw k, rw k (sym (bytes-rows (mostInputs * 2) a w y) ∙ ap bytes q))
+-- the one check is that of the rules
+pub judged : (rs inputs : List Row) {s : Status} {x : Bool} → x ≡ allKnown rs inputs → s ≡ also Done x LookupNoTrade
+    → s ≡ verdict (checks rs inputs)
+unfolding checks verdict run
+judged rs inputs e h = rw (h, e)
 
-  pub found-not-all : {x : Bool} → x ≡ allKnown (rows b) (rows input) → x ≡ false
-      → (LookupNoTrade ≡ lookup (rows b) (rows input) .status) × (area ≡ answerLeft (lookup (rows b) (rows input)) area)
+module _ (b input area : List ℕ) {s : Status} {x : Bool} (j : s ≡ verdict (checks (rows b) (rows input)))
+    (d : x ≡ isDone s) where
+  abbrev Leaves : List ℕ → Type 0
+  Leaves a = (s ≡ lookup (rows b) (rows input) .status) × (a ≡ answerLeft (lookup (rows b) (rows input)) area)
+
+  outcome : x ≡ true → lookup (rows b) (rows input) ≡ accepted (looked (rows b) (rows input)) (rows b)
+  unfolding lookup
+  outcome e = decided-done (checks (rows b) (rows input)) (rows b) _ (ap isDone (sym j) ∙ sym d ∙ e)
+
+  pub found-all : {a : List ℕ} → x ≡ true → wholeRecords (mostInputs * 2) (length a) ≡ true → Bytes a
+      → rows a ≡ looked (rows b) (rows input) → Leaves a
+  unfolding answerLeft
+  found-all {a} e w y q =
+      rw (outcome e) (is-done s (sym d ∙ e), sym (bytes-rows (mostInputs * 2) a w y) ∙ ap bytes q)
+
+  pub found-not-all : x ≡ false → Leaves area
   unfolding lookup answerLeft
-  found-not-all h e = let k = sym h ∙ e in (rw k, rw k)
+  found-not-all e =
+      let n = ap isDone (sym j) ∙ sym d ∙ e in
+      rw (decided-refused (checks (rows b) (rows input)) (rows b) (accepted (looked (rows b) (rows input)) (rows b)) n)
+      (j, rw n)
 
 -- an area of two records for each of the input
 pub twice : (n m : ℕ) → wholeRecords mostInputs n ≡ true → m ≡ n * 2

@@ -4,16 +4,19 @@ ghost use mathlib.Core.Bool.{true};
 ghost use Prim.Native.Nat.{_*_, _+_, _/_, _<_};
 ghost use lib.ListN.{length};
 ghost use Rattle.model.specs.Call.{mostInputs};
-ghost use Rattle.model.specs.Lookup.{looked, lookup};
+ghost use Rattle.model.specs.Lookup.{checks, looked, lookup};
 ghost use Rattle.model.specs.Rows.{rows, wholeRecords};
-ghost use Rattle.reply.specs.Left.{answerLeft};
+ghost use Rattle.model.specs.Plan.{verdict};
 ghost use Rattle.tables.specs.Bucket.{keyBucket};
 ghost use Rattle.tables.specs.Table.{Indexed};
+ghost use Rattle.reply.specs.Left.{answerLeft};
 ghost use Rattle.lookup.specs.Fill.{Answers, allKnown};
 use model::Status;
 use record::codes::Kind;
 use record::row::Grid;
 use record::row::Row;
+use reply::also;
+use reply::done;
 use shelf::place::row_at;
 use shelf::put::put;
 use tables::table::Slots;
@@ -35,6 +38,18 @@ fn all_known(book: &[u8], keys: &[u16; Slots::ALL], input: &[u8]) -> bool
         }
     }
     true
+}
+
+// The checks of the rules.
+fn judge(book: &[u8], keys: &[u16; Slots::ALL], input: &[u8]) -> Status
+    requires { ⌜ Indexed keyBucket (now book) (now keys) 0 ⌝ }
+    ensures { λ s. ⌜ s ≡ verdict (checks (rows (now (book .entry))) (rows (now (input .entry)))) ⌝ }
+{
+    also(
+        Status::Done,
+        all_known(book, keys, input),
+        Status::LookupNoTrade,
+    )
 }
 
 // The trade row and the settlement row of one record, at the places 2i and 2i + 1.
@@ -78,9 +93,10 @@ pub fn lookup(book: &[u8], keys: &[u16; Slots::ALL], input: &[u8], answer: &mut 
         ⌜ now (answer .exit)
         ≡ answerLeft (lookup (rows (now (book .entry))) (rows (now (input .entry)))) (now (answer .entry)) ⌝ }
 {
-    if all_known(book, keys, input) {
+    let s = judge(book, keys, input);
+    if done(s) {
         answer_all(book, keys, input, answer);
-        return Status::Done;
+        return s;
     }
-    Status::LookupNoTrade
+    s
 }

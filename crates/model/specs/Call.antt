@@ -16,11 +16,7 @@ use Rattle.record.specs.Grid.{decode}
 use Rattle.record.specs.declared.row.Row.{Row}
 use Rattle.rules.specs.Rules.{feedInput, lookupInput, orderInput, resultInput}
 use Rattle.model.specs.declared.Status.{Status}
-use Rattle.model.specs.declared.Status.the-variants.{Done, BadLength, BadBook, Unsound, BadInput, OverLimit}
-use Rattle.model.specs.declared.Status.the-variants.{NoRoom, OrderNoAccount, OrderNoSecurity, OrderNoTax}
-use Rattle.model.specs.declared.Status.the-variants.{OrderNoRate, OrderNoCharge, ResultNoTrade}
-use Rattle.model.specs.declared.Status.the-variants.{ResultNotSubmitted, ResultNoTax, ResultNoRate}
-use Rattle.model.specs.declared.Status.the-variants.{FeedNoSecurity, LookupNoTrade}
+use Rattle.model.specs.declared.Status.the-variants.{BadBook, BadInput, BadLength, Unsound}
 use Rattle.model.specs.Feed.{feed}
 use Rattle.model.specs.Lookup.{lookup}
 use Rattle.model.specs.Order.{order}
@@ -28,7 +24,7 @@ use Rattle.model.specs.Plan.{Outcome, pick, refused}
 use Rattle.model.specs.Result.{result}
 use Rattle.model.specs.Rows.{bytes, mostRecords, recordSize, rows, wholeRecords}
 use Rattle.model.specs.Sound.{sound}
-use Rattle.model.specs.Status.{number}
+use Rattle.model.specs.Status.{isDone, number}
 
 -- what a call returns and leaves behind
 pub record Reply : Type 0 where
@@ -39,26 +35,6 @@ pub record Reply : Type 0 where
 -- an area of n bytes with the status in bytes 60-63 and zeros elsewhere
 unfoldable pub refusalArea : ℕ → Status → List ℕ
 refusalArea n s = replicate 60 0 ++ bytesOf 4 (ofZ w32 (number s)) ++ replicate (n - recordSize) 0
-
-abbrev pub isDone : Status → Bool
-isDone Done = true
-isDone BadLength = false
-isDone BadBook = false
-isDone Unsound = false
-isDone BadInput = false
-isDone OverLimit = false
-isDone NoRoom = false
-isDone OrderNoAccount = false
-isDone OrderNoSecurity = false
-isDone OrderNoTax = false
-isDone OrderNoRate = false
-isDone OrderNoCharge = false
-isDone ResultNoTrade = false
-isDone ResultNotSubmitted = false
-isDone ResultNoTax = false
-isDone ResultNoRate = false
-isDone FeedNoSecurity = false
-isDone LookupNoTrade = false
 
 abbrev pub either : Bool → List ℕ → List ℕ → List ℕ
 either true a b = a

@@ -3,9 +3,9 @@
 use mathlib.Core.Bool.{Bool}
 use mathlib.Core.List.{List}
 use Prim.Native.Nat.{ℕ}
-use Rattle.laws.specs.Search.{the, every, keep, total, count, sumZ, largest, run}
+use Rattle.laws.specs.Search.{count, every, keep, largest, run, sumZ, the, total}
 use Rattle.laws.specs.Sort.{insert, sort}
-use Rattle.laws.specs.Change.{put, puts, fill, written}
+use Rattle.laws.specs.Change.{fill, put, puts, written}
 use Rattle.laws.specs.Chunk.{chunk, joined}
 use Rattle.record.specs.Grid.{decode, encode}
 use Rattle.record.specs.Key.{keyOf, sameKey}
@@ -13,22 +13,24 @@ use Rattle.record.specs.declared.row.Row.{Row}
 use Rattle.rules.specs.Ranges
 use Rattle.rules.specs.Signed.{near}
 use Rattle.rules.specs.Symbol.{symbolOk}
-use Rattle.rules.specs.Rules.{free, broker, customer, taxRate, customerRate, account, security, band, charge, trade}
-use Rattle.rules.specs.Rules.{request, tradeHistory, lot, summary, lotHistory, settlement, cash, orderInput}
-use Rattle.rules.specs.Rules.{resultInput, feedInput, lookupInput, fits}
+use Rattle.rules.specs.Rules.{account, band, broker, cash, charge, customer, customerRate, feedInput, fits, free}
+use Rattle.rules.specs.Rules.{lookupInput, lot, lotHistory, orderInput, request, resultInput, security, settlement}
+use Rattle.rules.specs.Rules.{summary, taxRate, trade, tradeHistory}
 use Rattle.model.specs.Band.{bandRate}
 use Rattle.model.specs.Call as call
 use Rattle.model.specs.Call.{Reply, feedCall, lookupCall, orderCall, refusalArea, replied, resultCall, shell}
-use Rattle.model.specs.Feed.{applied, feed, submits, swept}
-use Rattle.model.specs.Lookup.{looked, lookup}
+use Rattle.model.specs.Feed as feed
+use Rattle.model.specs.Feed.{applied, submits, swept}
+use Rattle.model.specs.Lookup as lookup
+use Rattle.model.specs.Lookup.{looked}
 use Rattle.model.specs.Lots.{closings, lotsFor, walk}
 use Rattle.model.specs.Money.{commissionOf, settlementOf, taxOf, taxable, untaxed}
 use Rattle.model.specs.Names.{named}
 use Rattle.model.specs.Order as order
-use Rattle.model.specs.Plan.{checked, finished, limited, posted, room}
+use Rattle.model.specs.Plan.{also, decided, posted, room, verdict}
 use Rattle.model.specs.Result as result
 use Rattle.model.specs.Rows.{bytes, found, hasKey, rows, sameRow, there, wholeRecords}
-use Rattle.model.specs.Sound.{ratesOf, s1, s2, s3, s4, s5, s6, s7, s8, s9, s10, sound}
+use Rattle.model.specs.Sound.{ratesOf, s1, s10, s2, s3, s4, s5, s6, s7, s8, s9, sound}
 use Rattle.model.specs.Tally.{tallied, tally}
 
 -- ---- bundles: to unfold one is to unfold what its line names
@@ -57,7 +59,7 @@ unfolding listsOpened gridOpened fieldsOpened kindsOpened moreKindsOpened ratesO
 rulesOpened = 0
 
 unfoldable shellOpened : ℕ
-unfolding rulesOpened shell replied refusalArea room limited
+unfolding rulesOpened shell replied refusalArea also verdict room decided
 shellOpened = 0
 
 unfoldable moneyOpened : ℕ
@@ -65,7 +67,7 @@ unfolding commissionOf settlementOf taxOf taxable untaxed
 moneyOpened = 0
 
 unfoldable postingOpened : ℕ
-unfolding shellOpened moneyOpened bandRate closings lotsFor walk checked finished posted
+unfolding shellOpened moneyOpened bandRate closings lotsFor walk posted
 postingOpened = 0
 
 -- ---- the calls
@@ -74,19 +76,19 @@ unfolding rulesOpened
 soundOpened rs = sound rs
 
 unfoldable pub orderOpened : List ℕ → List ℕ → List ℕ → Reply
-unfolding postingOpened order.nextNumber order.view order.posting order.plan order.finish order.order call.run
+unfolding postingOpened order.nextNumber order.view order.posting order.checks order.order call.run
 orderOpened b i a = orderCall b i a
 
 unfoldable pub resultOpened : List ℕ → List ℕ → List ℕ → Reply
-unfolding postingOpened result.view result.figures result.posting result.plan result.finish result.result call.run
+unfolding postingOpened result.view result.figures result.posting result.checks result.result call.run
 resultOpened b i a = resultCall b i a
 
 unfoldable pub feedOpened : List ℕ → List ℕ → List ℕ → Reply
-unfolding shellOpened applied feed submits swept call.run
+unfolding shellOpened applied feed.checks feed.feed submits swept call.run
 feedOpened b i a = feedCall b i a
 
 unfoldable pub lookupOpened : List ℕ → List ℕ → List ℕ → Reply
-unfolding shellOpened looked lookup call.run
+unfolding shellOpened looked lookup.checks lookup.lookup call.run
 lookupOpened b i a = lookupCall b i a
 
 unfoldable pub tallyOpened : List Row → List (List ℕ)

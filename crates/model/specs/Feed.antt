@@ -18,7 +18,7 @@ use Rattle.model.specs.declared.Status.the-variants.{FeedNoSecurity}
 use Rattle.model.specs.Edit.{_≔_, changed, new}
 use Rattle.model.specs.History.{historyRow}
 use Rattle.model.specs.Names.{aSecurity, aTrade}
-use Rattle.model.specs.Plan.{Outcome, accepted, limited, pick, refused}
+use Rattle.model.specs.Plan.{Check, Outcome, accepted, check, decided, lastChecks}
 use Rattle.model.specs.Rows.{found, is, nothing, sameRow, there}
 
 -- the entry's price reaches the request's bid
@@ -71,11 +71,21 @@ swept rs = map (λ (r : Row). cond (is kindRequest r && not (waits rs r)) nothin
 abbrev pub volumesFit : List Row → List Row → Bool
 volumesFit rs es = every (λ (e : Row). leb (found (aSecurity (e .symbol)) rs .m1) (volume .high)) es
 
+-- the rows when all entries are applied, and how many trades they submitted
+abbrev pub fed : List Row → List Row → Fed
+fed rs es = run applied (record { rows = rs; trades = 0 }) es
+
+-- what a feed is refused for
+unfoldable pub checks : List Row → List Row → List Check
+checks rs es =
+    check (every (λ (e : Row). there (aSecurity (e .symbol)) rs) es) FeedNoSecurity
+    ∷ lastChecks (volumesFit (fed rs es .rows) es) (fed rs es .trades) rs
+
+abbrev pub answerRow : ℕ → ℕ → Row
+answerRow entries trades = new (kind ≔ kindFeed ∷ n1 ≔ entries ∷ n2 ≔ trades ∷ [])
+
 -- a feed on a sound book's rows
 unfoldable pub feed : List Row → List Row → Outcome
 feed rs es =
-    let f = run applied (record { rows = rs; trades = 0 }) es in
-    let answer = new (kind ≔ kindFeed ∷ n1 ≔ length es ∷ n2 ≔ f .trades ∷ []) in
-    pick (every (λ (e : Row). there (aSecurity (e .symbol)) rs) es)
-    (limited (volumesFit (f .rows) es) (f .trades) rs (accepted (answer ∷ []) (swept (f .rows))))
-    (refused FeedNoSecurity rs)
+    decided (checks rs es) rs
+    (accepted (answerRow (length es) (fed rs es .trades) ∷ []) (swept (fed rs es .rows)))

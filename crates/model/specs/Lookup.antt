@@ -5,15 +5,17 @@ use Rattle.laws.specs.Search.{every}
 use Rattle.record.specs.declared.row.Row.{Row}
 use Rattle.model.specs.declared.Status.the-variants.{LookupNoTrade}
 use Rattle.model.specs.Names.{aSettlement, aTrade}
-use Rattle.model.specs.Plan.{Outcome, accepted, pick, refused}
+use Rattle.model.specs.Plan.{Check, Outcome, accepted, check, decided}
 use Rattle.model.specs.Rows.{found, there}
 
 unfoldable pub looked : List Row → List Row → List Row
 looked rs [] = []
 looked rs (i ∷ is) = found (aTrade (i .id)) rs ∷ found (aSettlement (i .id)) rs ∷ looked rs is
 
+-- what a lookup is refused for
+unfoldable pub checks : List Row → List Row → List Check
+checks rs inputs = check (every (λ (i : Row). there (aTrade (i .id)) rs) inputs) LookupNoTrade ∷ []
+
 -- a lookup on a sound book's rows
 unfoldable pub lookup : List Row → List Row → Outcome
-lookup rs inputs =
-    pick (every (λ (i : Row). there (aTrade (i .id)) rs) inputs) (accepted (looked rs inputs) rs)
-    (refused LookupNoTrade rs)
+lookup rs inputs = decided (checks rs inputs) rs (accepted (looked rs inputs) rs)

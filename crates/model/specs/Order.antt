@@ -1,13 +1,15 @@
 -- Order: clause 3.3.7. Input: one record, kind 33; type; flags cash 1, LIFO 2, roll back 4; party; symbol; n1 shares;
 -- n2 bid; time. Assumes nothing.
-use mathlib.Core.Bool.{Bool, true, false, cond, not}
+use mathlib.Core.Bool.{Bool, cond, not}
 use mathlib.Core.List.{List, [], _∷_}
 use Prim.Native.Nat.{ℕ, _+_, _%_}
 use lib.Dec.{leb}
+use lib.ListN.{length}
 use Rattle.laws.specs.Search.{largest}
 use Rattle.record.specs.Codes.{kindFree, kindOrder, kindRequest, kindTrade, pending, submitted, tms}
 use Rattle.record.specs.declared.row.Row.{Row}
-use Rattle.rules.specs.Ranges.{flags, form, id, kind, m1, m2, n1, n2, n3, n4, party, status, symbol, tradeNumber, when}
+use Rattle.rules.specs.Ranges.{flags, form, id, kind, m1, m2, n1, n2, n3, n4, party, status, symbol, tradeNumber}
+use Rattle.rules.specs.Ranges.{when}
 use Rattle.model.specs.declared.Status.the-variants.{OrderNoAccount, OrderNoCharge, OrderNoRate}
 use Rattle.model.specs.declared.Status.the-variants.{OrderNoSecurity, OrderNoTax}
 use Rattle.model.specs.Band.{bandRate}
@@ -17,7 +19,7 @@ use Rattle.model.specs.History.{historyRow}
 use Rattle.model.specs.Lots.{Walk, lotsFor, walk}
 use Rattle.model.specs.Money.{commissionOf, taxOf, untaxed}
 use Rattle.model.specs.Names.{aCharge, aCustomer, aSecurity, anAccount}
-use Rattle.model.specs.Plan.{Outcome, Plan, Posting, check, checked, finished, post, refuse, refused}
+use Rattle.model.specs.Plan.{Check, Outcome, Posting, accepted, check, decided, lastChecks, posted}
 use Rattle.model.specs.Rows.{found, is}
 use Rattle.model.specs.Sound.{ratesOf}
 
@@ -109,29 +111,23 @@ posting input v =
           (walked input v .sold);
     }
 
-unfoldable pub plan : Row → View → Plan
-plan input v =
-    checked
-    (check (not (is kindFree (v .account))) OrderNoAccount
+-- what an order is refused for
+unfoldable pub checks : List Row → Row → View → List Check
+checks rs input v =
+    check (not (is kindFree (v .account))) OrderNoAccount
     ∷ check (not (is kindFree (v .security))) OrderNoSecurity
     ∷ check (not (untaxed (v .account .form) (v .rates) (walked input v .bought) (walked input v .sold))) OrderNoTax
     ∷ check (leb 1 (v .rate)) OrderNoRate
     ∷ check (leb 1 (v .charge)) OrderNoCharge
-    ∷ [])
-    (posting input v)
+    ∷ lastChecks (leb (v .number) (tradeNumber .high)) (length (posting input v .added)) rs
 
 -- "With roll back, the answer is the one it would have had and the book is unchanged."
-abbrev unposted : List Row → Outcome → Outcome
-unposted rs o = record { status = o .status; answer = o .answer; rows = rs }
-
-abbrev kept : Bool → List Row → Outcome → Outcome
-kept true rs o = unposted rs o
-kept false rs o = o
-
-unfoldable pub finish : List Row → Row → ℕ → Plan → Outcome
-finish rs input number (refuse s) = refused s rs
-finish rs input number (post p) = kept (rollBack (input .flags)) rs (finished (leb number (tradeNumber .high)) p rs)
+abbrev pub rowsAfter : List Row → Row → Posting → List Row
+rowsAfter rs input p = cond (rollBack (input .flags)) rs (posted p rs)
 
 -- an order on a sound book's rows
 unfoldable pub order : List Row → Row → Outcome
-order rs input = let v = view rs input in finish rs input (v .number) (plan input v)
+order rs input =
+    let v = view rs input in
+    let p = posting input v in
+    decided (checks rs input v) rs (accepted (p .answer ∷ []) (rowsAfter rs input p))

@@ -6,13 +6,15 @@ use lib.Dec.{eqb, leb, ltb}
 use lib.IntN.{ℤ, pos, negℤ, natAbs, _+ℤ_}
 use mir.Syntax.{w64}
 use mir.Val.{toZ}
+use lib.ListN.{length}
 use Rattle.laws.specs.Search.{keep}
 use Rattle.record.specs.Codes.{completed, kindCash, kindFree, kindLot, kindLotHistory, kindResult, kindSettlement}
 use Rattle.record.specs.Codes.{kindSummary, submitted}
 use Rattle.record.specs.declared.row.Row.{Row}
 use Rattle.rules.specs.Ranges.{brokerTrades, commissionTotal, flags, id, kind, m1, m2, moneyMost, n1, n2, n3, party}
 use Rattle.rules.specs.Ranges.{status, symbol, when}
-use Rattle.model.specs.declared.Status.the-variants.{ResultNoRate, ResultNoTax, ResultNoTrade, ResultNotSubmitted}
+use Rattle.model.specs.declared.Status.the-variants.{ResultNoRate, ResultNoTax, ResultNoTrade}
+use Rattle.model.specs.declared.Status.the-variants.{ResultNotSubmitted}
 use Rattle.model.specs.Edit.{_≔_, bits32, bits64, changed, inSymbol, new}
 use Rattle.model.specs.Flags.{cash}
 use Rattle.model.specs.History.{historyRow}
@@ -20,7 +22,7 @@ use Rattle.model.specs.Lots.{Closing, Walk, closings, lotsFor, size, wal
 use Rattle.model.specs.Band.{bandRate}
 use Rattle.model.specs.Money.{buys, commissionOf, settlementOf, taxOf, untaxed}
 use Rattle.model.specs.Names.{aBroker, aCustomer, aSecurity, aSummary, aTrade, anAccount}
-use Rattle.model.specs.Plan.{Outcome, Plan, Posting, check, checked, finished, post, refuse, refused}
+use Rattle.model.specs.Plan.{Check, Outcome, Posting, accepted, check, decided, lastChecks, posted}
 use Rattle.model.specs.Rows.{found, is}
 use Rattle.model.specs.Sound.{ratesOf}
 
@@ -224,22 +226,26 @@ posting input v f =
       answer = answerRow t (f .tax) (f .balance) (f .settlement);
     }
 
-unfoldable pub plan : Row → View → Plan
-plan input v =
-    let f = figures input v in
-    checked
-    (check (not (is kindFree (v .trade))) ResultNoTrade
-    ∷ check (eqb (v .trade .status) submitted) ResultNotSubmitted
-    ∷ check (not (untaxed (v .account .form) (v .rates) (f .walked .bought) (f .walked .sold))) ResultNoTax
-    ∷ check (leb 1 (v .rate)) ResultNoRate
-    ∷ [])
-    (posting input v f)
-
 -- "balance, broker's trades or commission total .. would leave its range"
 abbrev pub within : Row → Figures → Bool
 within b f =
     leb (natAbs (f .balance)) moneyMost && leb (b .n1 + 1) (brokerTrades .high)
     && leb (b .m1 + f .commission) (commissionTotal .high)
+
+-- what a result is refused for by what it reads of the account
+abbrev pub ownChecks : View → Figures → List Check
+ownChecks v f =
+    check (not (is kindFree (v .trade))) ResultNoTrade
+    ∷ check (eqb (v .trade .status) submitted) ResultNotSubmitted
+    ∷ check (not (untaxed (v .account .form) (v .rates) (f .walked .bought) (f .walked .sold))) ResultNoTax
+    ∷ check (leb 1 (v .rate)) ResultNoRate
+    ∷ []
+
+-- and by the broker and the room, too
+unfoldable pub checks : List Row → Row → View → Figures → List Check
+checks rs input v f =
+    ownChecks v f
+    ++ lastChecks (within (found (aBroker (v .account .n1)) rs) f) (length (posting input v f .added)) rs
 
 abbrev pub withBroker : Row → ℕ → Posting → Posting
 withBroker b commission p = record {
@@ -249,12 +255,10 @@ withBroker b commission p = record {
   answer = p .answer;
 }
 
-unfoldable pub finish : List Row → Row → Figures → Plan → Outcome
-finish rs a f (refuse s) = refused s rs
-finish rs a f (post p) =
-    let b = found (aBroker (a .n1)) rs in
-    finished (within b f) (withBroker b (f .commission) p) rs
-
 -- a result on a sound book's rows
 unfoldable pub result : List Row → Row → Outcome
-result rs input = let v = view rs input in finish rs (v .account) (figures input v) (plan input v)
+result rs input =
+    let v = view rs input in
+    let f = figures input v in
+    let p = withBroker (found (aBroker (v .account .n1)) rs) (f .commission) (posting input v f) in
+    decided (checks rs input v f) rs (accepted (p .answer ∷ []) (posted p rs))

@@ -1,12 +1,13 @@
 -- "Status numbers, in order of checking." Each status has this paper's number, here and nowhere else. Assumes nothing.
+use mathlib.Core.Bool.{Bool, true, false}
 use Prim.Native.Nat.{ℕ}
 use lib.IntN.{ℤ, pos, negℤ}
 use Rattle.model.specs.declared.Status.{Status}
-use Rattle.model.specs.declared.Status.the-variants.{Done, BadLength, BadBook, Unsound, BadInput, OverLimit}
-use Rattle.model.specs.declared.Status.the-variants.{NoRoom, OrderNoAccount, OrderNoSecurity, OrderNoTax}
-use Rattle.model.specs.declared.Status.the-variants.{OrderNoRate, OrderNoCharge, ResultNoTrade}
-use Rattle.model.specs.declared.Status.the-variants.{ResultNotSubmitted, ResultNoTax, ResultNoRate}
-use Rattle.model.specs.declared.Status.the-variants.{FeedNoSecurity, LookupNoTrade}
+use Rattle.model.specs.declared.Status.the-variants.{BadBook, BadInput, BadLength, Done, FeedNoSecurity}
+use Rattle.model.specs.declared.Status.the-variants.{LookupNoTrade, NoRoom, OrderNoAccount, OrderNoCharge}
+use Rattle.model.specs.declared.Status.the-variants.{OrderNoRate, OrderNoSecurity, OrderNoTax, OverLimit}
+use Rattle.model.specs.declared.Status.the-variants.{ResultNoRate, ResultNoTax, ResultNoTrade}
+use Rattle.model.specs.declared.Status.the-variants.{ResultNotSubmitted, Unsound}
 
 -- -n, for n above zero
 abbrev minus : ℕ → ℤ
@@ -31,3 +32,23 @@ number ResultNoTax = minus 831
 number ResultNoRate = minus 841
 number FeedNoSecurity = minus 311
 number LookupNoTrade = minus 611
+
+abbrev pub isDone : Status → Bool
+isDone Done = true
+isDone BadLength = false
+isDone BadBook = false
+isDone Unsound = false
+isDone BadInput = false
+isDone OverLimit = false
+isDone NoRoom = false
+isDone OrderNoAccount = false
+isDone OrderNoSecurity = false
+isDone OrderNoTax = false
+isDone OrderNoRate = false
+isDone OrderNoCharge = false
+isDone ResultNoTrade = false
+isDone ResultNotSubmitted = false
+isDone ResultNoTax = false
+isDone ResultNoRate = false
+isDone FeedNoSecurity = false
+isDone LookupNoTrade = false

@@ -11,17 +11,17 @@ use Rattle.record.specs.Bytes.{Bytes}
 use Rattle.record.specs.Grid.{decode}
 use Rattle.record.specs.declared.row.Row.{Row}
 use Rattle.rules.specs.Rules.{lookupInput, orderInput}
-use Rattle.model.specs.Call.{choose, either, isDone, lookupCall, mostInputs, orderCall, refusalArea, replied}
-use Rattle.model.specs.Call.{run, shell}
+use Rattle.model.specs.Status.{isDone}
+use Rattle.model.specs.Call.{choose, either, lookupCall, mostInputs, orderCall, refusalArea, replied, run}
+use Rattle.model.specs.Call.{shell}
 use Rattle.model.specs.Flags.{rollBack}
-use Rattle.model.specs.Lookup.{looked, lookup}
-use Rattle.model.specs.Names.{aTrade}
+use Rattle.model.specs.Lookup.{lookup}
 use Rattle.model.specs.Order as order
-use Rattle.model.specs.Plan.{Outcome, Plan, accepted, pick, post, refuse, refused}
-use Rattle.model.specs.Rows.{bytes, mostRecords, recordSize, rows, there, wholeRecords}
+use Rattle.model.specs.Plan.{Check, Outcome, decided, pick, refused, verdict}
+use Rattle.model.specs.Rows.{bytes, mostRecords, recordSize, rows, wholeRecords}
 use Rattle.model.specs.RowsLaws.{bytes-rows}
 use Rattle.model.specs.Sound.{sound}
-use Rattle.model.specs.declared.Status.the-variants.{BadBook, BadInput, BadLength, LookupNoTrade, Unsound}
+use Rattle.model.specs.declared.Status.the-variants.{BadBook, BadInput, BadLength, Unsound}
 
 -- "A refusal leaves the book as found; all answer bytes are zero but the status"
 pub refusal-leaves : (o : Outcome) (b answer : List ℕ) → isDone (o .status) ≡ false
@@ -65,14 +65,18 @@ module _ (b answer : List ℕ) (bs : Bytes b) (decide : List Row → Outcome) (s
       go true true e true false = refl
       go true true e true true = reply-keeps (decide (rows b)) same e
 
-looks-only : (t : Bool) (rs inputs : List Row)
-    → pick t (accepted (looked rs inputs) rs) (refused LookupNoTrade rs) .rows ≡ rs
-looks-only true rs inputs = refl
-looks-only false rs inputs = refl
+-- a call that does nothing to the rows leaves them
+same-rows : (cs : List Check) (rs : List Row) (o : Outcome) → o .rows ≡ rs → decided cs rs o .rows ≡ rs
+unfolding decided
+same-rows cs rs o e = go (isDone (verdict cs))
+  where
+    go : (t : Bool) → pick t o (refused (verdict cs) rs) .rows ≡ rs
+    go true = e
+    go false = refl
 
 pub lookup-rows : (rs inputs : List Row) → lookup rs inputs .rows ≡ rs
 unfolding lookup
-lookup-rows rs inputs = looks-only (every (λ (i : Row). there (aTrade (i .id)) rs) inputs) rs inputs
+lookup-rows rs inputs = same-rows _ rs _ refl
 
 -- a lookup leaves every byte of the book
 pub lookup-keeps : (b input answer : List ℕ) → Bytes b → lookupCall b input answer .book ≡ b
@@ -84,19 +88,16 @@ lookup-keeps b input answer bs =
     (wholeRecords mostInputs (length input) && eqb (length answer) (2 * length input))
     (every lookupInput is)
 
-rolled-back : (rs : List Row) (input : Row) (number : ℕ) (p : Plan) → rollBack (input .flags) ≡ true
-    → order.finish rs input number p .rows ≡ rs
-unfolding order.finish
-rolled-back rs input number (refuse s) e = refl
-rolled-back rs input number (post p) e = rw e
+rolled-back : (rs : List Row) (input : Row) → rollBack (input .flags) ≡ true → order.order rs input .rows ≡ rs
+unfolding order.order
+rolled-back rs input e = same-rows _ rs _ (rw e)
 
 -- and so does an order with roll back
 pub roll-back-keeps : (b input answer : List ℕ) → Bytes b → rollBack (decode input .flags) ≡ true
     → orderCall b input answer .book ≡ b
-unfolding run order.order
+unfolding run
 roll-back-keeps b input answer bs e =
     let i = decode input in
-    let v = order.view (rows b) i in
-    shell-keeps b answer bs (λ rs. order.order rs i) (rolled-back (rows b) i (v .number) (order.plan i v) e)
+    shell-keeps b answer bs (λ rs. order.order rs i) (rolled-back (rows b) i e)
     (eqb (length input) recordSize && eqb (length answer) recordSize)
     (orderInput i)

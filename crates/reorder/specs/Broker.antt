@@ -13,7 +13,7 @@ use Rattle.laws.specs.Tests.{and-right}
 use Rattle.record.specs.Codes.{kindBroker}
 use Rattle.record.specs.Key.{keyOf, sameKey}
 use Rattle.record.specs.declared.row.Row.{Row}
-use Rattle.model.specs.Call.{isDone}
+use Rattle.model.specs.Status.{isDone}
 use Rattle.model.specs.Names.{aBroker}
 use Rattle.model.specs.Result.{brokerAfter, figures, posting, view}
 use Rattle.model.specs.Rows.{found, hasKey, is, nothing}

@@ -9,7 +9,7 @@ use native.Mathlib.Omega.{arith}
 use lib.ListN.{length}
 use Rattle.laws.specs.All.{All}
 use Rattle.laws.specs.Search.{bit, count, total}
-use Rattle.laws.specs.Puts.{news, olds}
+use Rattle.laws.specs.Puts.{news, olds, same-sums}
 use Rattle.laws.specs.Total.{total-append, total-map, total-single, total-zero}
 use Rattle.record.specs.Codes.{kindBroker, kindFree, kindTrade}
 use Rattle.record.specs.Key.{keyOf, sameKey}
@@ -18,15 +18,18 @@ use Rattle.rules.specs.Meaning.{means-fits, means-trade}
 use Rattle.rules.specs.Rules.{as-kind, resultInput}
 use Rattle.model.specs.declared.Status.the-variants.{BadInput, ResultNoTrade}
 use Rattle.model.specs.Names.{aBroker, aTrade}
-use Rattle.model.specs.Plan.{Posting, checked, refused}
-use Rattle.model.specs.Result.{brokerAfter, figures, finish, plan, posting, result, view, withBroker}
+use Rattle.model.specs.Plan.{Posting, refused, verdict}
+use Rattle.model.specs.Result.{brokerAfter, checks, figures, posting, result, view, withBroker}
 use Rattle.model.specs.Rows.{found, hasKey, is, mostRecords, nothing, sameRow}
 use Rattle.model.specs.Sound.{sound}
 use Rattle.model.specs.SoundMeans.{means-sound}
+use Rattle.model.specs.Status.{isDone}
+use Rattle.model.specs.declared.Status.{Status}
 use Rattle.facts.specs.Rows.{same-rows}
 use Rattle.facts.specs.Found.{found-kind, found-live, found-member}
 use Rattle.facts.specs.Keys.{key-kind}
-use Rattle.facts.specs.Posted.{adds, frees, same-sums, writes}
+use Rattle.facts.specs.Posted.{adds, frees, writes}
+use Rattle.facts.specs.Checks.{decided-refused, verdict-next}
 use Rattle.kept.specs.Cases.{by-cases, no}
 use Rattle.kept.specs.Once.{key-once}
 use Rattle.reorder.specs.Agree.{Agree, the-total}
@@ -98,8 +101,12 @@ module _ (own : ℕ → ℕ) (rs : List Row) (input : Row) (v : Inv own rs) (non
       absurd (omega arith))
 
   no-result : result rs input ≡ refused ResultNoTrade rs
-  unfolding result plan checked finish view
-  no-result = rw no-trade
+  unfolding result checks view
+  no-result =
+      let s = view rs input in
+      let cs = checks rs input s (figures input s) in
+      let e : verdict cs ≡ ResultNoTrade = verdict-next _ _ refl ∙ rw no-trade in
+      decided-refused cs rs _ (ap isDone e) ∙ ap (λ (t : Status). refused t rs) e
 
   pub nameless : step rs input .0 ≡ namelessNote input
   unfolding step

@@ -2,26 +2,27 @@
 -- answers the same and they agree still. Assumes nothing.
 use mathlib.Core.Path.{_≡_, refl, sym, ap, _∙_}
 use mathlib.Core.Bool.{Bool, true, false}
-use mathlib.Core.List.{List, [], _∷_}
+use mathlib.Core.List.{List, [], _∷_, _++_}
 use mathlib.Core.Logic.{_⊎_, inl, inr}
 use Prim.Native.Nat.{ℕ}
 use native.Mathlib.Omega.{arith}
-use lib.Dec.{leb}
 use lib.ListN.{length}
-use Rattle.laws.specs.Search.{bit, count, total}
+use Rattle.laws.specs.Search.{bit, count, run, total}
 use Rattle.laws.specs.Puts.{news, olds}
 use Rattle.record.specs.Codes.{kindBroker}
 use Rattle.record.specs.declared.row.Row.{Row}
 use Rattle.rules.specs.Rules.{resultInput}
 use Rattle.model.specs.declared.Status.{Status}
 use Rattle.model.specs.declared.Status.the-variants.{BadInput, Done, NoRoom, OverLimit}
-use Rattle.model.specs.Call.{isDone}
-use Rattle.model.specs.Plan.{Outcome, Plan, Posting, accepted, finished, limited, pick, post, posted, refuse, refused}
-use Rattle.model.specs.Plan.{room}
-use Rattle.model.specs.Result.{Figures, View, brokerAfter, figures, finish, plan, posting, result, view}
-use Rattle.model.specs.Rows.{sameRow}
+use Rattle.model.specs.Status.{isDone}
+use Rattle.model.specs.Plan.{also, check, lastChecks, pick, refused, verdict}
+use Rattle.model.specs.Result.{View, brokerAfter, checks, figures, ownChecks, posting, result, view, within}
+use Rattle.model.specs.Rows.{found, sameRow}
+use Rattle.model.specs.Names.{aBroker}
 use Rattle.facts.specs.Posted.{writes}
-use Rattle.kept.specs.Cases.{no}
+use Rattle.facts.specs.Checks.{decided-status, verdict-kept, verdict-more}
+use Rattle.facts.specs.Status.{is-done}
+use Rattle.kept.specs.Cases.{by-cases, no}
 use Rattle.reorder.specs.Agree.{Agree}
 use Rattle.reorder.specs.Inv.{Inv, broker-kind, itsBroker, not-same, totals}
 use Rattle.reorder.specs.SameView.{same-view}
@@ -34,46 +35,42 @@ pub record Fine (n : Note) : Type 0 where
   pub no-limit : n .status ≡ OverLimit → ⊥
   pub no-room : n .status ≡ NoRoom → ⊥
 
--- then the plan decides, and it is made of the view alone
-abbrev planned : Plan → Status
-planned (refuse s) = s
-planned (post p) = Done
+-- then its own checks decide, which are made of the view alone
+abbrev planned : Row → View → Status
+planned input v = verdict (ownChecks v (figures input v))
 
-last-checks : (g h : Bool) (o : Outcome) (rs : List Row) → o .status ≡ Done
-    → (pick g (pick h o (refused NoRoom rs)) (refused OverLimit rs) .status ≡ OverLimit → ⊥)
-    → (pick g (pick h o (refused NoRoom rs)) (refused OverLimit rs) .status ≡ NoRoom → ⊥)
-    → pick g (pick h o (refused NoRoom rs)) (refused OverLimit rs) .status ≡ Done
-last-checks true true o rs e l r = e
-last-checks true false o rs e l r = absurd (r refl)
-last-checks false h o rs e l r = absurd (l refl)
-
-finished-status : (g : Bool) (p : Posting) (rs : List Row) → (finished g p rs .status ≡ OverLimit → ⊥)
-    → (finished g p rs .status ≡ NoRoom → ⊥) → finished g p rs .status ≡ Done
-unfolding finished limited
-finished-status g p rs l r =
-    last-checks g (leb (length (p .added)) (room rs)) (accepted (p .answer ∷ []) (posted p rs)) rs refl l r
-
-finish-status : (rs : List Row) (a : Row) (f : Figures) (p : Plan) → (finish rs a f p .status ≡ OverLimit → ⊥)
-    → (finish rs a f p .status ≡ NoRoom → ⊥) → finish rs a f p .status ≡ planned p
-unfolding finish
-finish-status rs a f (refuse s) l r = refl
-finish-status rs a f (post p) l r = finished-status _ _ rs l r
+last-checks : (g h : Bool) → let s = verdict (check g OverLimit ∷ check h NoRoom ∷ []) in
+    (s ≡ OverLimit → ⊥) → (s ≡ NoRoom → ⊥) → s ≡ Done
+unfolding verdict run also
+last-checks true true l r = refl
+last-checks true false l r = absurd (r refl)
+last-checks false h l r = absurd (l refl)
 
 result-status : (rs : List Row) (input : Row) → (result rs input .status ≡ OverLimit → ⊥)
-    → (result rs input .status ≡ NoRoom → ⊥) → result rs input .status ≡ planned (plan input (view rs input))
-unfolding result
+    → (result rs input .status ≡ NoRoom → ⊥) → result rs input .status ≡ planned input (view rs input)
+unfolding result checks
 result-status rs input l r =
-    finish-status rs (view rs input .account) (figures input (view rs input)) (plan input (view rs input)) l r
+    let v = view rs input in
+    let f = figures input v in
+    let own = ownChecks v f in
+    let last = lastChecks (within (found (aBroker (v .account .n1)) rs) f) (length (posting input v f .added)) rs in
+    let same : result rs input .status ≡ verdict (own ++ last) = decided-status (own ++ last) rs _ refl in
+    same
+    ∙ by-cases (isDone (verdict own))
+    (λ d.
+    let e : result rs input .status ≡ verdict last = same ∙ verdict-more own last d in
+    verdict-more own last d ∙ last-checks _ _ (λ q. l (e ∙ q)) (λ q. r (e ∙ q)) ∙ sym (is-done (verdict own) d))
+    (λ d. verdict-kept own last d)
 
 step-status : (rs : List Row) (input : Row) → Fine (step rs input .0)
     → outcome rs input .status ≡ pick (resultInput input)
-    (record { status = planned (plan input (view rs input)); answer = []; rows = [] }) (refused BadInput []) .status
+    (record { status = planned input (view rs input); answer = []; rows = [] }) (refused BadInput []) .status
 unfolding step
 step-status rs input f = go (resultInput input) refl
   where
     go : (b : Bool) → resultInput input ≡ b
         → outcome rs input .status ≡ pick (resultInput input)
-        (record { status = planned (plan input (view rs input)); answer = []; rows = [] }) (refused BadInput []) .status
+        (record { status = planned input (view rs input); answer = []; rows = [] }) (refused BadInput []) .status
     go true e =
         let same : outcome rs input .status ≡ result rs input .status =
         ap (λ (b : Bool). pick b (result rs input) (refused BadInput rs) .status) e
@@ -92,7 +89,7 @@ module _ (own : ℕ → ℕ) (a : ℕ) (s t : List Row) (is : Inv own s) (it : I
       step-status s input fs
       ∙ ap
       (λ (v : View).
-      pick (resultInput input) (record { status = planned (plan input v); answer = []; rows = [] })
+      pick (resultInput input) (record { status = planned input v; answer = []; rows = [] })
       (refused BadInput []) .status)
       views
       ∙ sym (step-status t input ft)

@@ -22,13 +22,14 @@ use Rattle.rules.specs.Meaning.{means-fits, means-trade}
 use Rattle.rules.specs.Ranges.{limited}
 use Rattle.rules.specs.Rules.{as-kind, resultInput}
 use Rattle.model.specs.declared.Status.the-variants.{BadInput, BadLength, NoRoom, OverLimit}
-use Rattle.model.specs.Call.{Reply, aResult, either, isDone, refusalArea, replied, resultCall, run, shell}
+use Rattle.model.specs.Status.{isDone}
+use Rattle.model.specs.Call.{Reply, aResult, either, refusalArea, replied, resultCall, run, shell}
 use Rattle.model.specs.Names.{aTrade}
 use Rattle.model.specs.Plan.{Outcome}
 use Rattle.model.specs.Rows.{bytes, found, is, mostRecords, nothing, recordSize, rows, there, wholeRecords}
 use Rattle.model.specs.Sound.{sound}
 use Rattle.model.specs.SoundMeans.{means-sound}
-use Rattle.facts.specs.Found.{found-has, found-none, sound-s1, found-kind, found-member}
+use Rattle.facts.specs.Found.{found-has, found-kind, found-member, found-none, sound-s1}
 use Rattle.facts.specs.Names.{by-id}
 use Rattle.kept.specs.Bytes.{length-bytes, rows-bytes}
 use Rattle.kept.specs.Cases.{by-cases, cond-no, cond-yes}

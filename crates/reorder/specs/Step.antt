@@ -20,7 +20,7 @@ use Rattle.record.specs.declared.row.Row.{Row}
 use Rattle.rules.specs.Rules.{resultInput}
 use Rattle.model.specs.declared.Status.{Status}
 use Rattle.model.specs.declared.Status.the-variants.{BadInput}
-use Rattle.model.specs.Call.{isDone}
+use Rattle.model.specs.Status.{isDone}
 use Rattle.model.specs.Flags.{lifo}
 use Rattle.model.specs.Lots.{before, closes, lotsFor}
 use Rattle.model.specs.Money.{buys}

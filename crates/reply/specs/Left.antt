@@ -10,11 +10,11 @@ use lib.ListN.{length, drop, drop-of-length-le}
 use Rattle.laws.specs.Chunk.{joined}
 use Rattle.record.specs.Bytes.{Bytes}
 use Rattle.record.specs.declared.row.Row.{Row}
-use Rattle.model.specs.Call.{Promise, either, isDone, refusalArea, replied}
+use Rattle.model.specs.Status.{isDone, number}
+use Rattle.model.specs.Call.{Promise, either, refusalArea, replied}
 use Rattle.model.specs.Plan.{Outcome, accepted, refused}
 use Rattle.model.specs.Rows.{bytes, mostRecords, recordSize, rows, wholeRecords}
 use Rattle.model.specs.RowsLaws.{bytes-rows}
-use Rattle.model.specs.Status.{number}
 use Rattle.model.specs.declared.Status.{Status}
 use Rattle.shelf.specs.Rows.{putAt, putAt-in}
 

@@ -14,9 +14,9 @@ use Rattle.record.specs.Bytes.{bytesOf}
 use Rattle.record.specs.Grid.{encode}
 use Rattle.record.specs.declared.row.Row.{Row}
 use Rattle.rules.specs.Ranges.{n5}
-use Rattle.model.specs.Call.{either, isDone, refusalArea}
+use Rattle.model.specs.Status.{isDone, number}
+use Rattle.model.specs.Call.{either, refusalArea}
 use Rattle.model.specs.Edit.{_≔_, bits32, new}
-use Rattle.model.specs.Status.{number}
 use Rattle.model.specs.declared.Status.{Status}
 use Rattle.shelf.specs.Rows.{putAt, putAt-in}
 

@@ -3,10 +3,11 @@ ghost use mathlib.Core.Path.{_≡_};
 ghost use mathlib.Core.Bool.{Bool};
 ghost use Prim.Native.Nat.{_≤_};
 ghost use lib.ListN.{length, replicate};
-ghost use Rattle.model.specs.Call.{either, isDone, refusalArea};
+ghost use Rattle.model.specs.Status.{isDone, number};
+ghost use Rattle.model.specs.Call.{either, refusalArea};
 ghost use Rattle.model.specs.Edit.{inSymbol};
 ghost use Rattle.model.specs.Rows.{recordSize};
-ghost use Rattle.model.specs.Status.{number};
+ghost use Rattle.model.specs.Plan.{also};
 ghost use Rattle.reply.specs.Refusal.{refusal};
 use model::Status;
 use record::bytes::bits32;
@@ -72,6 +73,13 @@ pub fn done(s: Status) -> bool
     ensures { λ r. ⌜ r ≡ isDone s ⌝ }
 {
     code(s) == 0
+}
+
+// The status so far, and one more check. The first that fails gives the status.
+pub fn also(s: Status, passes: bool, otherwise: Status) -> Status
+    ensures { λ r. ⌜ r ≡ also s passes otherwise ⌝ }
+{
+    if done(s) & !passes { otherwise } else { s }
 }
 
 // The end of a call: a refusal writes its status and zeros over whatever the answer area holds.

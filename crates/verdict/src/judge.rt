@@ -8,13 +8,15 @@ ghost use lib.ListN.{length};
 ghost use Rattle.record.specs.Signed.{up};
 ghost use Rattle.rules.specs.Ranges.{fee, moneyMost};
 ghost use Rattle.model.specs.Lots.{closings};
-ghost use Rattle.model.specs.Rows.{rows};
+ghost use Rattle.model.specs.Names.{aBroker};
+ghost use Rattle.model.specs.Plan.{room};
+ghost use Rattle.model.specs.Rows.{found, rows};
 ghost use Rattle.model.specs.Sound.{sound};
 ghost use Rattle.queue.specs.Queue.{queueMost};
 ghost use Rattle.tables.specs.Bucket.{keyBucket};
 ghost use Rattle.tables.specs.Table.{Indexed};
 ghost use Rattle.lots.specs.Lots.{lotsOf};
-ghost use Rattle.verdict.specs.Judge.{inRange, judged, ownRows, rowsAdded};
+ghost use Rattle.verdict.specs.Judge.{Judged, inRange, ownRows, rowsAdded};
 ghost use Rattle.verdict.specs.NoLots.{summaryOf};
 use crate::figures::Figures;
 use crate::figures::Terms;
@@ -31,6 +33,7 @@ use record::bytes::bits64;
 use record::codes::Kind;
 use record::codes::TradeStatus;
 use record::row::Row;
+use reply::also;
 use rules::limited::near64;
 use shelf::count::room;
 use tables::table::Slots;
@@ -99,30 +102,46 @@ fn rows_added(book: &[u8], keys: &[u16; Slots::ALL], terms: Terms, left: Shares)
     closing + own_rows(terms.trade, terms.summary, in_shares(left))
 }
 
+// The broker's row is found, and the figures are in their ranges.
+fn in_limits(book: &[u8], keys: &[u16; Slots::ALL], terms: Terms, figures: Figures) -> bool
+    requires { ⌜ Indexed keyBucket (now book) (now keys) 0 ⌝ }
+    requires { ⌜ up (figures .commission .0) ≤ fee .high ⌝ }
+    ensures { λ r. ⌜ r ≡ inRange (found (aBroker (terms .account .n1)) (rows (now (book .entry)))) figures ⌝ }
+{
+    let broker = party_row(book, keys, Kind::BROKER, terms.account.n1);
+    in_range(broker, figures)
+}
+
+fn has_room(book: &[u8], keys: &[u16; Slots::ALL], terms: Terms, left: Shares) -> bool
+    requires { ⌜ Indexed keyBucket (now book) (now keys) 0 ⌝ }
+    requires { ⌜ (sound (rows (now book)) ≡ true) × (terms .summary ≡ summaryOf (rows (now book)) (terms .trade)) ⌝ }
+    ensures { λ r.
+        let rs = rows (now (book .entry)) in
+        ⌜ r ≡ leb (rowsAdded rs (terms .trade) (terms .summary) (up (left .0))) (room rs) ⌝ }
+{
+    rows_added(book, keys, terms, left) <= room(book)
+}
+
+// The checks of the rules, one after the other.
 pub fn judge(book: &[u8], keys: &[u16; Slots::ALL], terms: Terms, figures: Figures) -> Status
     requires { ⌜ Indexed keyBucket (now book) (now keys) 0 ⌝ }
     requires { ⌜ (sound (rows (now book)) ≡ true) × (terms .summary ≡ summaryOf (rows (now book)) (terms .trade)) ⌝ }
     requires { ⌜ up (figures .commission .0) ≤ fee .high ⌝ }
-    ensures { λ s. ⌜ s ≡ judged (rows (now (book .entry))) terms figures ⌝ }
+    ensures { λ s. ⌜ Judged (rows (now (book .entry))) terms figures s ⌝ }
 {
-    if terms.trade.kind == Kind::FREE {
-        return Status::ResultNoTrade;
-    }
-    if terms.trade.status != TradeStatus::SUBMITTED {
-        return Status::ResultNotSubmitted;
-    }
-    if figures.untaxed {
-        return Status::ResultNoTax;
-    }
-    if terms.rate.0 == 0 {
-        return Status::ResultNoRate;
-    }
-    let broker = party_row(book, keys, Kind::BROKER, terms.account.n1);
-    if in_range(broker, figures) {
-        if room(book) < rows_added(book, keys, terms, figures.walk.need) {
-            return Status::NoRoom;
-        }
-        return Status::Done;
-    }
-    Status::OverLimit
+    let s1 = also(
+        Status::Done,
+        terms.trade.kind != Kind::FREE,
+        Status::ResultNoTrade,
+    );
+    let s2 = also(
+        s1,
+        terms.trade.status == TradeStatus::SUBMITTED,
+        Status::ResultNotSubmitted,
+    );
+    let s3 = also(s2, !figures.untaxed, Status::ResultNoTax);
+    let s4 = also(s3, 1 <= terms.rate.0, Status::ResultNoRate);
+    let s5 = also(s4, in_limits(book, keys, terms, figures), Status::OverLimit);
+    let left = figures.walk.need;
+    also(s5, has_room(book, keys, terms, left), Status::NoRoom)
 }

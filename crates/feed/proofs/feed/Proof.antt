@@ -3,13 +3,13 @@
 use mathlib.Core.Path.{_≡_, refl, sym, ap, _∙_}
 use native.Mathlib.Omega.{arith}
 use lib.ListN.{length}
-use Rattle.model.specs.Call.{isDone}
-use Rattle.feed.specs.Apply.{ready-start}
-use Rattle.feed.specs.Judge.{few-inputs, judged-done}
-use Rattle.feed.specs.Whole.{fed-done, fed-refused, few-trades}
 use borrow.Author.Needs.{needs}
 use Rattle.feed.proofs.feed.Statement.{statement}
 use Rattle.feed.proofs.feed.Tie as tie
+use Rattle.model.specs.Status.{isDone}
+use Rattle.feed.specs.Apply.{ready-start}
+use Rattle.feed.specs.Judge.{few-inputs, judged-done}
+use Rattle.feed.specs.Whole.{fed-done, fed-refused, few-trades}
 
 apply-all-requires : tie.Need-apply-all-requires
 apply-all-requires c κs =
@@ -18,8 +18,11 @@ apply-all-requires c κs =
     let start = judge-at .before .before .before .before .before .before .before in
     let judge = judge-at .judge in
     let pre = start .pre in
-    let fits = judged-done _ _ _ (ap isDone (sym (judge .ensures)) ∙ sym (test .before .done .ensures) ∙ test .if1
-    .taken) in
+    let submitted = judge-at .before .before .submitted in
+    let fits =
+    judged-done _ _ (pre .1 .0 .0) (submitted .ensures)
+    (ap isDone (sym (judge .ensures)) ∙ sym (test .before .done .ensures) ∙ test .if1 .taken)
+    in
     (ready-start _ _ (pre .0) (pre .1 .0 .0), record { known = fits .0; volumes = fits .1 })
 
 answer-row-requires : tie.Need-answer-row-requires
@@ -29,8 +32,11 @@ answer-row-requires c κs =
     let start = judge-at .before .before .before .before .before .before .before in
     let judge = judge-at .judge in
     let pre = start .pre in
-    let fits = judged-done _ _ _ (ap isDone (sym (judge .ensures)) ∙ sym (test .before .done .ensures) ∙ test .if1
-    .taken) in
+    let submitted = judge-at .before .before .submitted in
+    let fits =
+    judged-done _ _ (pre .1 .0 .0) (submitted .ensures)
+    (ap isDone (sym (judge .ensures)) ∙ sym (test .before .done .ensures) ∙ test .if1 .taken)
+    in
     let few = few-inputs _ (pre .1 .1 .0) in
     (omega arith, few-trades _ _ (pre .0 .few) (fits .2))
 

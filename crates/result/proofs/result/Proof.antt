@@ -30,9 +30,11 @@ post-requires c κs =
     let judged = (c .before .before .before) in
     let reckoned = (c .before .before .before .before .before) in
     let read = (c .before .before .before .before .before .before .before) in
-    let pre = (c .before .before .before .before .before .before .before .before .before .before .before) .pre in
+    let start = (c .before .before .before .before .before .before .before .before .before .before .before) in
+    let pre = start .pre in
     let passed =
-    result-passed _ _ _ (judged .judge .ensures) (test .before .done .ensures) (test .if1 .taken)
+    result-passed _ (start .args .input) (read .terms-of .ensures) (reckoned .figured .ensures .0)
+    (judged .judge .ensures) (test .before .done .ensures) (test .if1 .taken)
     in (
       pre .0,
       (
