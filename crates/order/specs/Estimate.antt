@@ -36,7 +36,7 @@ abbrev pub tradeNo : ℕ → TradeNo
 tradeNo x = record { 0 = x }
 
 -- of the view
-abbrev pub termsSeen : View → Terms
+abbrev termsSeen : View → Terms
 termsSeen v = record {
   account = v .account;
   security = v .security;
@@ -46,7 +46,7 @@ termsSeen v = record {
   number = tradeNo (v .number);
 }
 
-abbrev pub estimateSeen : Row → View → Estimate
+abbrev estimateSeen : Row → View → Estimate
 estimateSeen input v = record {
   price = priceOf (priceUsed input v);
   walk = made (walked input v);

@@ -26,7 +26,7 @@ tradeOf input t e = tradeRow input (t .number .0) (e .price .0) (t .charge) (up 
 abbrev pub requestOf : Row → Terms → Estimate → Row
 requestOf input t e = requestRow input (t .account .n1) (t .number .0) (e .price .0)
 
-abbrev pub addedOf : Row → Terms → Estimate → List Row
+abbrev addedOf : Row → Terms → Estimate → List Row
 addedOf input t e =
     addedRows input (t .account .n1) (t .number .0) (e .price .0) (t .charge) (up (e .commission .0))
 

@@ -30,7 +30,7 @@ use Rattle.verdict.specs.NoLots.{summaryOf}
 use lib.ListN.{length}
 
 -- of the view
-abbrev pub termsSeen : View → Terms
+abbrev termsSeen : View → Terms
 termsSeen v = record {
   trade = v .trade;
   account = v .account;
@@ -49,7 +49,7 @@ figuresMade v f = record {
   balance = cents (f .balance);
 }
 
-abbrev pub figuresSeen : Row → View → Figures
+abbrev figuresSeen : Row → View → Figures
 figuresSeen input v = figuresMade v (figures input v)
 
 -- and of the book
