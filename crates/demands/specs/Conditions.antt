@@ -12,11 +12,13 @@ use Rattle.laws.specs.Place.{the-none, the-passes}
 use Rattle.laws.specs.Puts.{the-one}
 use Rattle.laws.specs.Search.{count, every, means-every, the}
 use Rattle.laws.specs.Tests.{Means, and-assoc, means-and, means-eq, means-le}
-use Rattle.record.specs.Codes.{kindAccount, kindCharge, kindFree, kindTrade}
+use Rattle.record.specs.Codes.{kindAccount, kindCharge, kindFree, kindSecurity, kindTrade}
 use Rattle.record.specs.Grid.{decode}
-use Rattle.record.specs.Key.{keyOf, sameKey}
-use Rattle.record.specs.declared.key.Key.{Key}
+use Rattle.rules.specs.Key.{keyOf, sameKey}
+use Rattle.record.specs.Symbol.{means-same, sameSymbol}
+use Rattle.rules.specs.declared.key.Key.{Key}
 use Rattle.record.specs.declared.row.Row.{Row}
+use Rattle.record.specs.declared.symbol.Symbol.{Symbol}
 use Rattle.rules.specs.Meaning.{means-account, means-feed-input, means-lookup-input, means-order-input}
 use Rattle.rules.specs.Meaning.{means-result-input}
 use Rattle.rules.specs.Ranges.{taxStatus}
@@ -134,15 +136,15 @@ pub means-an-account : (n : ℕ) (r : Row) → Means (hasKey (anAccount n) r) (A
 means-an-account n r =
     means-by (by-party kindAccount refl n r) (means-and (means-eq (r .kind) kindAccount) (means-eq (r .party) n))
 
-pub means-a-security : (y : ℕ) (r : Row) → Means (hasKey (aSecurity y) r) (Security y r)
-means-a-security y r = means-by (by-symbol y r) (means-and (means-eq (r .kind) _) (means-eq (r .symbol) y))
+pub means-a-security : (y : Symbol) (r : Row) → Means (hasKey (aSecurity y) r) (Security y r)
+means-a-security y r = means-by (by-symbol y r) (means-and (means-eq (r .kind) kindSecurity) (means-same (r .symbol) y))
 
 pub means-a-trade : (i : ℕ) (r : Row) → Means (hasKey (aTrade i) r) (Trade i r)
 means-a-trade i r =
     means-by (by-id kindTrade refl i r) (means-and (means-eq (r .kind) kindTrade) (means-eq (r .id) i))
 
 means-a-charge : (form tier : ℕ) (r : Row) → Means (hasKey (aCharge form tier) r) (Charge form tier r)
-unfolding hasKey sameKey keyOf
+unfolding hasKey sameKey keyOf sameSymbol
 means-a-charge form tier r =
     means-by (by-charge (eqb (r .kind) kindCharge) refl)
     (means-as

@@ -13,6 +13,7 @@ use Rattle.laws.specs.Search as laws
 use Rattle.record.specs.Codes.{kindAccount, kindBand, kindCharge, kindSecurity, kindTrade, submitted}
 use Rattle.record.specs.Grid.{decode}
 use Rattle.record.specs.declared.row.Row.{Row}
+use Rattle.record.specs.declared.symbol.Symbol.{Symbol}
 use Rattle.rules.specs.Meaning.{FeedInput, LookupInput, OrderInput, ResultInput}
 use Rattle.rules.specs.Ranges.{brokerTrades, commissionTotal, moneyMost, tradeNumber, volume}
 use Rattle.model.specs.declared.Status.{Status}
@@ -63,7 +64,7 @@ Records most n = (recordSize ≤ n) × (n % recordSize ≡ 0) × (n ≤ most * r
 abbrev pub Account : ℕ → Row → Type 0
 Account number r = (r .kind ≡ kindAccount) × (r .party ≡ number)
 
-abbrev pub Security : ℕ → Row → Type 0
+abbrev pub Security : Symbol → Row → Type 0
 Security symbol r = (r .kind ≡ kindSecurity) × (r .symbol ≡ symbol)
 
 abbrev pub Trade : ℕ → Row → Type 0
@@ -91,7 +92,7 @@ Untaxed taxStatus rates w =
 abbrev pub tierOf : List Row → Row → ℕ
 tierOf rs account = found (aCustomer (account .n2)) rs .form
 
-abbrev pub exchangeOf : List Row → ℕ → ℕ
+abbrev pub exchangeOf : List Row → Symbol → ℕ
 exchangeOf rs symbol = found (aSecurity symbol) rs .form
 
 -- ---- the lines that every call has

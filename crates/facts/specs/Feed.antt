@@ -13,8 +13,10 @@ use Rattle.laws.specs.Keep.{every-on}
 use Rattle.laws.specs.Search.{every, keep, run, total}
 use Rattle.laws.specs.Tests.{and-assoc, and-false, and-right, and-true}
 use Rattle.record.specs.Codes.{kindFree, kindSecurity, kindTrade, kindTradeHistory, pending, submitted}
-use Rattle.record.specs.declared.key.Key.{Key}
+use Rattle.record.specs.Symbol.{same-symbol, sameSymbol}
+use Rattle.rules.specs.declared.key.Key.{Key}
 use Rattle.record.specs.declared.row.Row.{Row}
+use Rattle.record.specs.declared.symbol.Symbol.{Symbol}
 use Rattle.rules.specs.Ranges.{volume}
 use Rattle.model.specs.Feed.{Fed, applied, sent, submit, submits, traded, volumesFit}
 use Rattle.model.specs.History.{historyRow}
@@ -40,7 +42,7 @@ module _ (j : ℕ) (p : Row → Bool) (of : OfKind j p) (full : j ≡ kindFree �
       keep-put (found k rs) n l p (of (found k rs) (found-other-kind k rs j other full))
       (of n (λ q. found-other-kind k rs j other full (sym e ∙ q)))
 
-  pub traded-keeps : (e : Row) (y : ℕ) (rs : List Row) → (j ≡ kindSecurity → ⊥)
+  pub traded-keeps : (e : Row) (y : Symbol) (rs : List Row) → (j ≡ kindSecurity → ⊥)
       → keep p (put sameRow (found (aSecurity y) rs) (traded e (found (aSecurity y) rs)) rs) ≡ keep p rs
   traded-keeps e y rs other = beside (aSecurity y) rs rs (traded e (found (aSecurity y) rs)) other refl
 
@@ -76,13 +78,13 @@ module _ (rs : List Row) (time number : ℕ) where
 abbrev pub pends : List Row → ℕ → Bool
 pends rs i = eqb (found (aTrade i) rs .status) pending
 
-traded-found : (e : Row) (y : ℕ) (rs : List Row) (i : ℕ)
+traded-found : (e : Row) (y : Symbol) (rs : List Row) (i : ℕ)
     → keep (hasKey (aTrade i)) (put sameRow (found (aSecurity y) rs) (traded e (found (aSecurity y) rs)) rs)
     ≡ keep (hasKey (aTrade i)) rs
 traded-found e y rs i =
     traded-keeps kindTrade (hasKey (aTrade i)) (key-of (aTrade i)) (λ q. omega arith) e y rs (λ q. omega arith)
 
-pub pends-traded : (e : Row) (y : ℕ) (rs : List Row) (i : ℕ)
+pub pends-traded : (e : Row) (y : Symbol) (rs : List Row) (i : ℕ)
     → pends (put sameRow (found (aSecurity y) rs) (traded e (found (aSecurity y) rs)) rs) i ≡ pends rs i
 pends-traded e y rs i =
     let s = found (aSecurity y) rs in
@@ -150,8 +152,8 @@ pends-submits e rs (t ∷ ts) i =
 
 -- ---- volumes
 -- the shares of the entries on a symbol
-unfoldable pub sharesFor : ℕ → List Row → ℕ
-sharesFor s es = total (λ (e : Row). cond (eqb (e .symbol) s) (e .n2) 0) es
+unfoldable pub sharesFor : Symbol → List Row → ℕ
+sharesFor s es = total (λ (e : Row). cond (sameSymbol (e .symbol) s) (e .n2) 0) es
 
 -- ---- one entry
 module _ (f : Fed) (e : Row) where
@@ -161,51 +163,51 @@ module _ (f : Fed) (e : Row) where
   abbrev afterTraded : List Row
   afterTraded = put sameRow securityWas (traded e securityWas) (f .rows)
 
-  securities-kept : (s : ℕ) → keep (hasKey (aSecurity s)) (applied f e .rows) ≡ keep (hasKey (aSecurity s)) afterTraded
+  securities-kept : (s : Symbol) → keep (hasKey (aSecurity s)) (applied f e .rows) ≡ keep (hasKey (aSecurity s)) afterTraded
   unfolding applied
   securities-kept s =
       submits-keep kindSecurity (hasKey (aSecurity s)) (key-of (aSecurity s)) (λ q. omega arith) e (λ q. omega arith)
       (λ q. omega arith) afterTraded (submits afterTraded e)
 
-  same-security : (s : ℕ) → hasKey (aSecurity s) (traded e securityWas) ≡ hasKey (aSecurity s) securityWas
+  same-security : (s : Symbol) → hasKey (aSecurity s) (traded e securityWas) ≡ hasKey (aSecurity s) securityWas
   same-security s = by-symbol s (traded e securityWas) ∙ sym (by-symbol s securityWas)
 
-  pub there-next : (s : ℕ) → there (aSecurity s) (applied f e .rows) ≡ there (aSecurity s) (f .rows)
+  pub there-next : (s : Symbol) → there (aSecurity s) (applied f e .rows) ≡ there (aSecurity s) (f .rows)
   there-next s =
       there-kept (aSecurity s) (applied f e .rows) afterTraded (securities-kept s)
       ∙ there-alike securityWas (traded e securityWas) (f .rows) (aSecurity s) (same-security s)
 
-  other-security : (s : ℕ) → eqb (e .symbol) s ≡ false → hasKey (aSecurity s) securityWas ≡ false
+  other-security : (s : Symbol) → sameSymbol (e .symbol) s ≡ false → hasKey (aSecurity s) securityWas ≡ false
   other-security s n =
       ⊎-elim
       (λ h.
       let q : securityWas .symbol ≡ e .symbol =
-      eqb-true (securityWas .symbol) (e .symbol)
-      (and-right (is kindSecurity securityWas) (eqb (securityWas .symbol) (e .symbol)) (sym (by-symbol (e .symbol) securityWas) ∙ h))
+      same-symbol (securityWas .symbol) (e .symbol)
+      (and-right (is kindSecurity securityWas) (sameSymbol (securityWas .symbol) (e .symbol)) (sym (by-symbol (e .symbol) securityWas) ∙ h))
       in
       by-symbol s securityWas ∙ rw (q, n) (and-false (is kindSecurity securityWas)))
       (λ h. ap (hasKey (aSecurity s)) h ∙ by-symbol s nothing)
       (found-either (aSecurity (e .symbol)) (f .rows))
 
-  pub volume-next : (s : ℕ) → there (aSecurity s) (f .rows) ≡ true
+  pub volume-next : (s : Symbol) → there (aSecurity s) (f .rows) ≡ true
       → found (aSecurity s) (applied f e .rows) .m1
-      ≡ found (aSecurity s) (f .rows) .m1 + cond (eqb (e .symbol) s) (e .n2) 0
+      ≡ found (aSecurity s) (f .rows) .m1 + cond (sameSymbol (e .symbol) s) (e .n2) 0
   volume-next s h =
       ap (λ (r : Row). r .m1) (found-kept (aSecurity s) (applied f e .rows) afterTraded (securities-kept s))
-      ∙ go (eqb (e .symbol) s) refl
+      ∙ go (sameSymbol (e .symbol) s) refl
     where
       here : e .symbol ≡ s → found (aSecurity s) afterTraded ≡ traded e securityWas
       here q =
-          let o : securityWas ≡ found (aSecurity s) (f .rows) = ap (λ (y : ℕ). found (aSecurity y) (f .rows)) q in
+          let o : securityWas ≡ found (aSecurity s) (f .rows) = ap (λ (y : Symbol). found (aSecurity y) (f .rows)) q in
           found-same securityWas (traded e securityWas) (f .rows) (aSecurity s) h o
           (same-security s ∙ ap (hasKey (aSecurity s)) o ∙ found-has (aSecurity s) (f .rows) h)
 
-      go : (t : Bool) → eqb (e .symbol) s ≡ t
-          → found (aSecurity s) afterTraded .m1 ≡ found (aSecurity s) (f .rows) .m1 + cond (eqb (e .symbol) s) (e .n2) 0
+      go : (t : Bool) → sameSymbol (e .symbol) s ≡ t
+          → found (aSecurity s) afterTraded .m1 ≡ found (aSecurity s) (f .rows) .m1 + cond (sameSymbol (e .symbol) s) (e .n2) 0
       go true q =
-          let y = eqb-true (e .symbol) s q in
+          let y = same-symbol (e .symbol) s q in
           ap (λ (r : Row). r .m1) (here y)
-          ∙ ap (λ (x : ℕ). found (aSecurity x) (f .rows) .m1 + e .n2) y
+          ∙ ap (λ (x : Symbol). found (aSecurity x) (f .rows) .m1 + e .n2) y
           ∙ rw q
       go false q =
           ap (λ (r : Row). r .m1)
@@ -213,14 +215,14 @@ module _ (f : Fed) (e : Row) where
           ∙ rw q (sym (add-zero (found (aSecurity s) (f .rows) .m1)))
 
 -- ---- all of them
-pub volume-after : (s : ℕ) (f : Fed) (es : List Row) → there (aSecurity s) (f .rows) ≡ true
+pub volume-after : (s : Symbol) (f : Fed) (es : List Row) → there (aSecurity s) (f .rows) ≡ true
     → found (aSecurity s) (run applied f es .rows) .m1 ≡ found (aSecurity s) (f .rows) .m1 + sharesFor s es
 unfolding run sharesFor total
 volume-after s f [] h = sym (add-zero (found (aSecurity s) (f .rows) .m1))
 volume-after s f (e ∷ es) h =
     let more = volume-after s (applied f e) es (there-next f e s ∙ h) in
     let one = volume-next f e s h in
-    more ∙ rw one (add-assoc (found (aSecurity s) (f .rows) .m1) (cond (eqb (e .symbol) s) (e .n2) 0) (sharesFor s es))
+    more ∙ rw one (add-assoc (found (aSecurity s) (f .rows) .m1) (cond (sameSymbol (e .symbol) s) (e .n2) 0) (sharesFor s es))
 
 pub volumes-fit : (f : Fed) (es : List Row) → every (λ (e : Row). there (aSecurity (e .symbol)) (f .rows)) es ≡ true
     → volumesFit (run applied f es .rows) es

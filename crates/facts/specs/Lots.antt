@@ -14,7 +14,9 @@ use Rattle.laws.specs.Search.{count, keep, total}
 use Rattle.laws.specs.Sort.{count-sort, of-sort}
 use Rattle.laws.specs.Tests.{_⇔_, and-left}
 use Rattle.record.specs.Codes.{kindLot}
+use Rattle.record.specs.Symbol.{sameSymbol}
 use Rattle.record.specs.declared.row.Row.{Row}
+use Rattle.record.specs.declared.symbol.Symbol.{Symbol}
 use Rattle.rules.specs.Ranges.{priceMost, sharesMost}
 use Rattle.model.specs.Flags.{lifo}
 use Rattle.model.specs.Lots.{Closing, before, closes, closings, lotsFor, taken}
@@ -50,13 +52,13 @@ count-closings p need (l ∷ ls) = go (eqb need 0) (count-closings p (need - tak
     go true ih = omega arith
     go false ih = omega arith
 
-pub closes-lot : (form account symbol : ℕ) (l : Row) → closes form account symbol l ≡ true → is kindLot l ≡ true
+pub closes-lot : (form account : ℕ) (symbol : Symbol) (l : Row) → closes form account symbol l ≡ true → is kindLot l ≡ true
 closes-lot form account symbol l e =
     and-left (is kindLot l) (eqb (l .party) account)
-    (and-left (is kindLot l && eqb (l .party) account) (eqb (l .symbol) symbol)
+    (and-left (is kindLot l && eqb (l .party) account) (sameSymbol (l .symbol) symbol)
     (and-left (lotOf account symbol l) (buys form ⇔ short l) e))
 
-module _ (rs : List Row) (form flags account symbol : ℕ) where
+module _ (rs : List Row) (form flags account : ℕ) (symbol : Symbol) where
   pub count-lots : (p : Row → Bool) → count p (lotsFor rs form flags account symbol) ≤ count p rs
   unfolding lotsFor
   count-lots p =

@@ -18,7 +18,9 @@ use Rattle.laws.specs.Tests.{and-left, and-right}
 use Rattle.laws.specs.Total.{total-zero}
 use Rattle.record.specs.Codes.{kindAccount, kindBand, kindCustomer, kindCustomerRate, kindLot, kindSecurity}
 use Rattle.record.specs.Codes.{kindTrade}
+use Rattle.record.specs.Symbol.{sameSymbol}
 use Rattle.record.specs.declared.row.Row.{Row}
+use Rattle.record.specs.declared.symbol.Symbol.{Symbol}
 use Rattle.rules.specs.Meaning.{means-account, means-band, means-fits, means-lot, means-result-input, means-security}
 use Rattle.rules.specs.Meaning.{means-trade}
 use Rattle.rules.specs.Ranges.{charged, commissionPart, moneyMost, priceMost, sharesMost, taxPart, tradeNumber}
@@ -35,12 +37,12 @@ use Rattle.facts.specs.Names.{by-id, by-party, by-symbol}
 use Rattle.facts.specs.Signed.{sum-size}
 
 -- ---- the last price
-pub price-most : (rs : List Row) (y : ℕ) → s1 rs ≡ true → found (aSecurity y) rs .n1 ≤ priceMost
+pub price-most : (rs : List Row) (y : Symbol) → s1 rs ≡ true → found (aSecurity y) rs .n1 ≤ priceMost
 unfolding found
 price-most rs y e =
     the-most (hasKey (aSecurity y)) (λ (r : Row). r .n1) priceMost rs e
     (λ r f h.
-    let own = and-left (is kindSecurity r) (eqb (r .symbol) y) (sym (by-symbol y r) ∙ h) in
+    let own = and-left (is kindSecurity r) (sameSymbol (r .symbol) y) (sym (by-symbol y r) ∙ h) in
     let k = eqb-true (r .kind) kindSecurity own in
     means-security r .shows (as-kind kindSecurity r k ∙ f) .0 .2 .2 .2 .2 .2 .2 .2 .1)
     (omega arith)
@@ -174,20 +176,20 @@ sum-most f (x ∷ l) h =
     omega arith
 
 module _ (rs : List Row) (good : sound rs ≡ true) where
-  share-most : (account symbol : ℕ) → All (λ (r : Row). natAbs (sharesOf account symbol r) ≤ sharesMost) rs
+  share-most : (account : ℕ) (symbol : Symbol) → All (λ (r : Row). natAbs (sharesOf account symbol r) ≤ sharesMost) rs
   share-most account symbol r m = go (lotOf account symbol r) refl
     where
       go : (t : Bool) → lotOf account symbol r ≡ t → natAbs (cond t (toZ w64 (r .m1)) (pos 0)) ≤ sharesMost
       go true e =
           let k : r .kind ≡ kindLot =
           eqb-true (r .kind) kindLot (and-left (is kindLot r) (eqb (r .party) account)
-          (and-left (is kindLot r && eqb (r .party) account) (eqb (r .symbol) symbol) e))
+          (and-left (is kindLot r && eqb (r .party) account) (sameSymbol (r .symbol) symbol) e))
           in
           let f = means-fits r .holds (means-sound rs .shows good .s1 r m) in
           means-lot r .shows (as-kind kindLot r k ∙ f) .0 .1
       go false e = omega arith
 
-  summary-most : length rs ≤ mostRecords → (account symbol : ℕ)
+  summary-most : length rs ≤ mostRecords → (account : ℕ) (symbol : Symbol)
       → natAbs (toZ w64 (found (aSummary account symbol) rs .m1)) ≤ moneyMost
   summary-most few account symbol = go (there (aSummary account symbol) rs) refl
     where

@@ -9,9 +9,11 @@ use borrow.Author.Tests.{eq-eqb, eqb-true}
 use Rattle.laws.specs.Tests.{and-assoc, or-cases}
 use Rattle.record.specs.Codes.{kindAccount, kindBroker, kindCash, kindCustomer, kindLot, kindRequest, kindSecurity}
 use Rattle.record.specs.Codes.{kindSettlement, kindSummary, kindTaxRate, kindTrade, kindTradeHistory}
-use Rattle.record.specs.Key.{among, keyOf, sameKey}
-use Rattle.record.specs.declared.key.Key.{Key}
+use Rattle.rules.specs.Key.{among, keyOf, sameKey}
+use Rattle.record.specs.Symbol.{sameSymbol}
+use Rattle.rules.specs.declared.key.Key.{Key}
 use Rattle.record.specs.declared.row.Row.{Row}
+use Rattle.record.specs.declared.symbol.Symbol.{Symbol}
 use Rattle.model.specs.Names.{aHistory, aSecurity, aSummary, byId, byParty}
 use Rattle.model.specs.Rows.{hasKey, is}
 
@@ -21,8 +23,8 @@ ofId kind id r = is kind r && eqb (r .id) id
 abbrev pub ofParty : ℕ → ℕ → Row → Bool
 ofParty kind party r = is kind r && eqb (r .party) party
 
-abbrev ofSymbol : ℕ → ℕ → Row → Bool
-ofSymbol kind symbol r = is kind r && eqb (r .symbol) symbol
+abbrev ofSymbol : ℕ → Symbol → Row → Bool
+ofSymbol kind symbol r = is kind r && sameSymbol (r .symbol) symbol
 
 abbrev pub idKinds : List ℕ
 idKinds = kindTrade ∷ kindRequest ∷ kindSettlement ∷ kindCash ∷ kindLot ∷ []
@@ -53,7 +55,7 @@ of-five P k a b c d f pa pb pc pd pf e =
 -- a row has a key where its kind is the key's and what is left of the key fits
 of-kind : (r : Row) (k : Key) (x : Bool) → (r .kind ≡ k .kind → sameKey (keyOf r) k ≡ x)
     → hasKey k r ≡ (is (k .kind) r && x)
-unfolding hasKey sameKey keyOf
+unfolding hasKey sameKey keyOf sameSymbol
 of-kind r k x h = go (eqb (r .kind) (k .kind)) refl
   where
     go : (t : Bool) → eqb (r .kind) (k .kind) ≡ t → hasKey k r ≡ (is (k .kind) r && x)
@@ -77,7 +79,7 @@ abbrev ById : ℕ → Type 0
 ById k = (i : ℕ) (r : Row) → hasKey (byId k i) r ≡ ofId k i r
 
 pub by-id : (k : ℕ) → among k idKinds ≡ true → ById k
-unfolding sameKey keyOf
+unfolding sameKey keyOf sameSymbol
 by-id k e =
     of-five ById k kindTrade kindRequest kindSettlement kindCash kindLot
     (λ i r. of-kind r (byId kindTrade i) (eqb (r .id) i) (λ h. rw h (last-three (eqb (r .id) i))))
@@ -91,7 +93,7 @@ abbrev ByParty : ℕ → Type 0
 ByParty k = (p : ℕ) (r : Row) → hasKey (byParty k p) r ≡ ofParty k p r
 
 pub by-party : (k : ℕ) → among k partyKinds ≡ true → ByParty k
-unfolding sameKey keyOf
+unfolding sameKey keyOf sameSymbol
 by-party k e =
     of-four ByParty k kindBroker kindCustomer kindTaxRate kindAccount
     (λ p r. of-kind r (byParty kindBroker p) (eqb (r .party) p) (λ h. rw h (last-four (eqb (r .party) p))))
@@ -100,16 +102,17 @@ by-party k e =
     (λ p r. of-kind r (byParty kindAccount p) (eqb (r .party) p) (λ h. rw h (last-four (eqb (r .party) p))))
     e
 
-pub by-symbol : (s : ℕ) (r : Row) → hasKey (aSecurity s) r ≡ ofSymbol kindSecurity s r
-unfolding sameKey keyOf
-by-symbol s r = of-kind r (aSecurity s) (eqb (r .symbol) s) (λ h. rw h (last-two (eqb (r .symbol) s)))
+pub by-symbol : (s : Symbol) (r : Row) → hasKey (aSecurity s) r ≡ ofSymbol kindSecurity s r
+unfolding sameKey keyOf sameSymbol
+by-symbol s r = of-kind r (aSecurity s) (sameSymbol (r .symbol) s) (λ h. rw h (last-two (sameSymbol (r .symbol) s)))
 
-pub by-holder : (a s : ℕ) (r : Row) → hasKey (aSummary a s) r ≡ (ofParty kindSummary a r && eqb (r .symbol) s)
-unfolding sameKey keyOf
+pub by-holder : (a : ℕ) (s : Symbol) (r : Row)
+    → hasKey (aSummary a s) r ≡ (ofParty kindSummary a r && sameSymbol (r .symbol) s)
+unfolding sameKey keyOf sameSymbol
 by-holder a s r =
-    of-kind r (aSummary a s) (eqb (r .party) a && eqb (r .symbol) s)
-    (λ h. rw h (both (eqb (r .party) a) (eqb (r .symbol) s)))
-    ∙ and-assoc (is kindSummary r) (eqb (r .party) a) (eqb (r .symbol) s)
+    of-kind r (aSummary a s) (eqb (r .party) a && sameSymbol (r .symbol) s)
+    (λ h. rw h (both (eqb (r .party) a) (sameSymbol (r .symbol) s)))
+    ∙ and-assoc (is kindSummary r) (eqb (r .party) a) (sameSymbol (r .symbol) s)
   where
     both : (a b : Bool) → (a && true && b && true && true) ≡ (a && b)
     both true true = refl
@@ -117,7 +120,7 @@ by-holder a s r =
     both false b = refl
 
 pub by-status : (i s : ℕ) (r : Row) → hasKey (aHistory i s) r ≡ (ofId kindTradeHistory i r && eqb (r .status) s)
-unfolding sameKey keyOf
+unfolding sameKey keyOf sameSymbol
 by-status i s r =
     of-kind r (aHistory i s) (eqb (r .id) i && eqb (r .status) s)
     (λ h. rw h (both (eqb (r .status) s) (eqb (r .id) i)))
@@ -132,7 +135,7 @@ by-status i s r =
 -- ---- a row with the key of another
 -- a row of another kind has another key
 pub other-kind : (o r : Row) → eqb (r .kind) (o .kind) ≡ false → hasKey (keyOf o) r ≡ false
-unfolding hasKey sameKey keyOf
+unfolding hasKey sameKey keyOf sameSymbol
 other-kind o r e = rw e
 
 own-history : (r : Row) → r .kind ≡ kindTradeHistory → keyOf r ≡ aHistory (r .id) (r .status)

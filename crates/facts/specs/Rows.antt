@@ -15,7 +15,8 @@ use Rattle.laws.specs.Place.{every-at}
 use Rattle.laws.specs.Search.{keep, place}
 use Rattle.record.specs.Codes.{kindFree}
 use Rattle.record.specs.Grid.{decode, row-eq}
-use Rattle.record.specs.declared.key.Key.{Key}
+use Rattle.record.specs.Symbol.{numbered, sameSymbol, symbol-eq, symbol-itself, symbolNumber}
+use Rattle.rules.specs.declared.key.Key.{Key}
 use Rattle.record.specs.declared.row.Row.{Row}
 use Rattle.rules.specs.Meaning.{means-free}
 use Rattle.rules.specs.Rules.{as-kind, fits}
@@ -33,7 +34,7 @@ fields a b =
     ∷ field (a .flags) (b .flags)
     ∷ field (a .party) (b .party)
     ∷ field (a .id) (b .id)
-    ∷ field (a .symbol) (b .symbol)
+    ∷ field (symbolNumber (a .symbol)) (symbolNumber (b .symbol))
     ∷ field (a .n1) (b .n1)
     ∷ field (a .n2) (b .n2)
     ∷ field (a .n3) (b .n3)
@@ -45,7 +46,7 @@ fields a b =
     ∷ []
 
 pub same-rows : (a b : Row) → sameRow a b ≡ true → a ≡ b
-unfolding sameRow
+unfolding sameRow sameSymbol
 same-rows a b e =
     let s = eqb (a .kind) (b .kind) in
     let at = digits-equal s (fields a b) e in
@@ -56,7 +57,7 @@ same-rows a b e =
     (at 2)
     (at 3)
     (at 4)
-    (at 5)
+    (symbol-eq {a = a .symbol} {b = b .symbol} (at 5))
     (at 6)
     (at 7)
     (at 8)
@@ -76,7 +77,7 @@ row-itself a =
       eq-eqb (a .flags) (a .flags) refl,
       eq-eqb (a .party) (a .party) refl,
       eq-eqb (a .id) (a .id) refl,
-      eq-eqb (a .symbol) (a .symbol) refl,
+      symbol-itself (a .symbol),
       eq-eqb (a .n1) (a .n1) refl,
       eq-eqb (a .n2) (a .n2) refl,
       eq-eqb (a .n3) (a .n3) refl,
@@ -105,7 +106,8 @@ free-is : (r : Row) → fits r ≡ true → r .kind ≡ kindFree → r ≡ nothi
 free-is r f k =
     let h = means-free r .shows (as-kind kindFree r k ∙ f) in
     row-eq k (none _ (h .2 .1)) (none _ (h .2 .2 .1)) (none _ (h .2 .2 .2 .1)) (none _ (h .2 .2 .2 .2 .1))
-    (none _ (h .2 .2 .2 .2 .2 .1)) (none _ (h .2 .2 .2 .2 .2 .2 .1)) (none _ (h .2 .2 .2 .2 .2 .2 .2 .1))
+    (none _ (h .2 .2 .2 .2 .2 .1)) (ap numbered (none _ (h .2 .2 .2 .2 .2 .2 .1)))
+    (none _ (h .2 .2 .2 .2 .2 .2 .2 .1))
     (none _ (h .2 .2 .2 .2 .2 .2 .2 .2 .1)) (none _ (h .2 .2 .2 .2 .2 .2 .2 .2 .2 .1))
     (none _ (h .2 .2 .2 .2 .2 .2 .2 .2 .2 .2 .1)) (none _ (h .2 .2 .2 .2 .2 .2 .2 .2 .2 .2 .2 .1))
     (none _ (h .2 .2 .2 .2 .2 .2 .2 .2 .2 .2 .2 .2 .1)) (none _ (h .2 .2 .2 .2 .2 .2 .2 .2 .2 .2 .2 .2 .2 .1))

@@ -16,7 +16,9 @@ use Rattle.laws.specs.Sort.{every-sort, sort, sort-map}
 use Rattle.laws.specs.Tests.{and-left, and-right, and-true}
 use Rattle.laws.specs.Walk.{from-holds, left-next, left-none}
 use Rattle.record.specs.Codes.{kindFree, kindRequest, kindSecurity, kindTrade, pending, submitted}
+use Rattle.record.specs.Symbol.{sameSymbol, symbol-itself}
 use Rattle.record.specs.declared.row.Row.{Row}
+use Rattle.record.specs.declared.symbol.Symbol.{Symbol}
 use Rattle.rules.specs.Ranges.{m1, n1, volume, when}
 use Rattle.model.specs.Edit.{_≔_, changed}
 use Rattle.model.specs.Feed.{Fed, applied, lower, reached, sent, submits, traded, triggered}
@@ -63,9 +65,9 @@ ready-start b steady i e = record {
 }
 
 -- ---- an entry's security
-security-kind : (y : ℕ) (r : Row) → hasKey (aSecurity y) r ≡ true → r .kind ≡ kindSecurity
+security-kind : (y : Symbol) (r : Row) → hasKey (aSecurity y) r ≡ true → r .kind ≡ kindSecurity
 security-kind y r e =
-    eqb-true (r .kind) kindSecurity (and-left (is kindSecurity r) (eqb (r .symbol) y) (sym (by-symbol y r) ∙ e))
+    eqb-true (r .kind) kindSecurity (and-left (is kindSecurity r) (sameSymbol (r .symbol) y) (sym (by-symbol y r) ∙ e))
 
 abbrev quote : Row → Row → ℕ → Row
 quote e s v = changed s (n1 ≔ e .n1 ∷ m1 ≔ (s .m1 + v) ∷ when ≔ e .time ∷ [])
@@ -191,14 +193,14 @@ module _ (rs : List Row) (e r : Row) {x : Bool} (h : x ≡ hits e r) where
   waits-or-not {t} y f =
       let k = and-left (is kindRequest r) x y in
       let z = sym h ∙ and-right (is kindRequest r) x y in
-      let a = and-left (eqb (r .symbol) (e .symbol)) (reached e r) z in
-      let c = and-right (eqb (r .symbol) (e .symbol)) (reached e r) z in
+      let a = and-left (sameSymbol (r .symbol) (e .symbol)) (reached e r) z in
+      let c = and-right (sameSymbol (r .symbol) (e .symbol)) (reached e r) z in
       rw (f, k, a, c) (sym (and-true _ ∙ and-true _))
 
   pub not-hit : (is kindRequest r && x) ≡ false → false ≡ triggered rs e r
   unfolding hits
   not-hit y =
-      go (is kindRequest r) (eqb (found (aTrade (r .id)) rs .status) pending) (eqb (r .symbol) (e .symbol))
+      go (is kindRequest r) (eqb (found (aTrade (r .id)) rs .status) pending) (sameSymbol (r .symbol) (e .symbol))
       (reached e r)
       (rw h at y)
     where
@@ -231,9 +233,9 @@ waits-there rs e r h = go (there (aTrade (r .id)) rs) refl
     pends : eqb (found (aTrade (r .id)) rs .status) pending ≡ true
     pends =
         and-right (is kindRequest r) (eqb (found (aTrade (r .id)) rs .status) pending)
-        (and-left (is kindRequest r && eqb (found (aTrade (r .id)) rs .status) pending) (eqb (r .symbol) (e .symbol))
+        (and-left (is kindRequest r && eqb (found (aTrade (r .id)) rs .status) pending) (sameSymbol (r .symbol) (e .symbol))
         (and-left
-        (is kindRequest r && eqb (found (aTrade (r .id)) rs .status) pending && eqb (r .symbol) (e .symbol))
+        (is kindRequest r && eqb (found (aTrade (r .id)) rs .status) pending && sameSymbol (r .symbol) (e .symbol))
         (reached e r)
         h))
 
@@ -277,7 +279,7 @@ module _ {rs : List Row} {e : Row} {es : List Row} (s : Fits rs (e ∷ es)) wher
       let l : found (aSecurity y) rs .m1 + sharesFor y (e ∷ es) ≤ volume .high =
       leb-true _ _ (and-left (volumeFits rs (e ∷ es) e) (every (volumeFits rs (e ∷ es)) es) (s .volumes))
       in
-      let q : sharesFor y (e ∷ es) ≡ e .n2 + sharesFor y es = rw (eq-eqb y y refl) in
+      let q : sharesFor y (e ∷ es) ≡ e .n2 + sharesFor y es = rw (symbol-itself y) in
       omega arith
 
   fits-next : (n : ℕ) → Fits (applied (record { rows = rs; trades = n }) e .rows) es
@@ -306,7 +308,7 @@ module _ {rs : List Row} {e : Row} {es : List Row} (s : Fits rs (e ∷ es)) wher
           ≡ found (aSecurity (x .symbol)) (f .rows) .m1 + sharesFor (x .symbol) (e ∷ es)
       moved f x t =
           ap (λ (m : ℕ). m + sharesFor (x .symbol) es) (volume-next f e (x .symbol) t)
-          ∙ add-assoc (found (aSecurity (x .symbol)) (f .rows) .m1) (cond (eqb (e .symbol) (x .symbol)) (e .n2) 0)
+          ∙ add-assoc (found (aSecurity (x .symbol)) (f .rows) .m1) (cond (sameSymbol (e .symbol) (x .symbol)) (e .n2) 0)
           (sharesFor (x .symbol) es)
 
 -- what is left of the input, applied to the book as it is, leads to w

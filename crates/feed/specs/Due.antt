@@ -17,6 +17,7 @@ use Rattle.laws.specs.Search.{bit, length-keep, count, every, keep, means-every
 use Rattle.laws.specs.Sort.{every-sort, length-sort, sort}
 use Rattle.laws.specs.Tests.{and-false, and-left, and-right, one-truth, or-assoc, or-false, or-true}
 use Rattle.record.specs.Codes.{kindRequest, kindTrade, pending}
+use Rattle.record.specs.Symbol.{sameSymbol}
 use Rattle.record.specs.declared.row.Row.{Row}
 use Rattle.model.specs.Feed.{Fed, applied, lower, reached, submits, swept, traded, triggered, waits}
 use Rattle.model.specs.Names.{aRequest, aSecurity, aTrade, named}
@@ -52,7 +53,7 @@ module _ (ks : List Row) (d : Row → Bool) where
   unfolding submits hits
   submits-are rs e w =
       let q : (r : Row) → triggered rs e r ≡ (is kindRequest r && chosen rs e r) =
-      λ r. four (is kindRequest r) (pends rs (r .id)) (eqb (r .symbol) (e .symbol)) (reached e r)
+      λ r. four (is kindRequest r) (pends rs (r .id)) (sameSymbol (r .symbol) (e .symbol)) (reached e r)
       in
       let k : keep (triggered rs e) rs ≡ keep (λ r. is kindRequest r && chosen rs e r) rs =
       λ j. keep (λ r. q r j) rs

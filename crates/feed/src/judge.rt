@@ -2,9 +2,9 @@
 ghost use mathlib.Core.Path.{_≡_};
 ghost use mathlib.Core.Bool.{cond, true};
 ghost use Prim.Native.Nat.{_≤_};
-ghost use lib.Dec.{eqb};
 ghost use lib.ListN.{length};
 ghost use Rattle.laws.specs.Search.{count, every};
+ghost use Rattle.record.specs.Symbol.{sameSymbol};
 ghost use Rattle.model.specs.Call.{mostInputs};
 ghost use Rattle.model.specs.Rows.{rows, wholeRecords};
 ghost use Rattle.model.specs.Plan.{verdict};
@@ -21,6 +21,7 @@ use record::codes::Kind;
 use record::codes::TradeType;
 use record::row::Grid;
 use record::row::Row;
+use record::symbol::Symbol;
 use reply::also;
 use shelf::count::bit;
 use shelf::count::room;
@@ -36,7 +37,9 @@ pub fn hits(entry: Row, request: Row) -> bool
     let form = request.form;
     let below = ((form == TradeType::TLB) | (form == TradeType::TSL)) & (entry.n1 <= request.n2);
     let above = (form == TradeType::TLS) & (request.n2 <= entry.n1);
-    (request.symbol == entry.symbol) & (below | above)
+    let own = request.symbol;
+    let other = entry.symbol;
+    own.same(other) & (below | above)
 }
 
 fn hit_by(input: &[u8], request: Row) -> bool
@@ -95,18 +98,15 @@ fn all_known(book: &[u8], steady: &[u16; Slots::ALL], input: &[u8]) -> bool
 }
 
 // The shares of an entry, if it is on the symbol.
-fn shares(symbol: u64, entry: Row) -> u64
-    ensures { λ r. ⌜ (r ≡ cond (eqb (entry .symbol) symbol) (entry .n2) 0) × (r ≤ 4294967295) ⌝ }
+fn shares(symbol: Symbol, entry: Row) -> u64
+    ensures { λ r. ⌜ (r ≡ cond (sameSymbol (entry .symbol) symbol) (entry .n2) 0) × (r ≤ 4294967295) ⌝ }
 {
-    if entry.symbol == symbol {
-        entry.n2 as u64
-    } else {
-        0
-    }
+    let own = entry.symbol;
+    if own.same(symbol) { entry.n2 as u64 } else { 0 }
 }
 
 // The shares of the entries on a symbol.
-fn shares_for(input: &[u8], symbol: u64) -> u64
+fn shares_for(input: &[u8], symbol: Symbol) -> u64
     requires { ⌜ wholeRecords mostInputs (length (now input)) ≡ true ⌝ }
     ensures { λ r. ⌜ r ≡ sharesFor symbol (rows (now (input .entry))) ⌝ }
 {

@@ -6,6 +6,9 @@ ghost use Rattle.rules.specs.Rules.{fits};
 use record::codes::Kind;
 use record::row::Row;
 
+mod standing;
+mod trading;
+
 // A row is free or fits the grid.
 pub fn row_fits(r: Row) -> bool
     ensures { λ b. ⌜ b ≡ fits r ⌝ }

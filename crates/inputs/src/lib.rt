@@ -5,40 +5,51 @@ ghost use Rattle.laws.specs.Search.{every};
 ghost use Rattle.record.specs.Grid.{decode};
 ghost use Rattle.rules.specs.Rules.{feedInput, lookupInput, orderInput, resultInput};
 ghost use Rattle.model.specs.Rows.{rows};
-use kinds::inputs::Inputs;
-use record::codes::TradeType;
+use kinds::inputs::FeedInput;
+use kinds::inputs::LookupInput;
+use kinds::inputs::OrderInput;
+use kinds::inputs::ResultInput;
 use record::row::Grid;
 use record::row::Row;
-use rules::limited::alike;
-use rules::limited::in_limits;
-use rules::symbol::symbol_ok;
+use rules::obey::obeys;
 use shelf::place::row_at;
+
+fn order(r: Row) -> bool
+    ensures { λ b. ⌜ b ≡ orderInput r ⌝ }
+{
+    obeys(r, OrderInput::RULE)
+}
+
+fn result(r: Row) -> bool
+    ensures { λ b. ⌜ b ≡ resultInput r ⌝ }
+{
+    obeys(r, ResultInput::RULE)
+}
+
+fn feed(r: Row) -> bool
+    ensures { λ b. ⌜ b ≡ feedInput r ⌝ }
+{
+    obeys(r, FeedInput::RULE)
+}
+
+fn lookup(r: Row) -> bool
+    ensures { λ b. ⌜ b ≡ lookupInput r ⌝ }
+{
+    obeys(r, LookupInput::RULE)
+}
 
 pub fn is_order(part: &[u8]) -> bool
     requires { ⌜ length (now part) ≡ 64 ⌝ }
     ensures { λ b. ⌜ b ≡ orderInput (decode (now (part .entry))) ⌝ }
 {
-    let r = Row::read(part);
-    in_limits(r, Inputs::ORDER) & alike(r.n2 == 0, r.form <= TradeType::TMS) & symbol_ok(r.symbol)
+    order(Row::read(part))
 }
 
 pub fn is_result(part: &[u8]) -> bool
     requires { ⌜ length (now part) ≡ 64 ⌝ }
     ensures { λ b. ⌜ b ≡ resultInput (decode (now (part .entry))) ⌝ }
 {
-    in_limits(Row::read(part), Inputs::RESULT)
-}
-
-fn is_feed(r: Row) -> bool
-    ensures { λ b. ⌜ b ≡ feedInput r ⌝ }
-{
-    in_limits(r, Inputs::FEED) & symbol_ok(r.symbol)
-}
-
-fn is_lookup(r: Row) -> bool
-    ensures { λ b. ⌜ b ≡ lookupInput r ⌝ }
-{
-    in_limits(r, Inputs::LOOKUP)
+    result(Row::read(part))
 }
 
 // Every record of an input.
@@ -48,7 +59,7 @@ pub fn all_feed(input: &[u8]) -> bool
     let n = input.len() / Grid::SIZE;
     let mut i = 0;
     while i < n {
-        if is_feed(row_at(input, i)) {
+        if feed(row_at(input, i)) {
             i += 1;
         } else {
             return false;
@@ -64,7 +75,7 @@ pub fn all_lookup(input: &[u8]) -> bool
     let n = input.len() / Grid::SIZE;
     let mut i = 0;
     while i < n {
-        if is_lookup(row_at(input, i)) {
+        if lookup(row_at(input, i)) {
             i += 1;
         } else {
             return false;

@@ -13,9 +13,10 @@ use Rattle.laws.specs.Keep.{count-has}
 use Rattle.laws.specs.Search.{bit, count, every}
 use Rattle.record.specs.Codes.{completed, kindBand, kindCash, kindCustomer, kindCustomerRate, kindFree, kindLot}
 use Rattle.record.specs.Codes.{kindLotHistory, kindSecurity, kindSettlement, kindSummary, kindTrade, pending}
-use Rattle.record.specs.Key.{among}
-use Rattle.record.specs.declared.key.Key.{Key}
+use Rattle.rules.specs.Key.{among}
+use Rattle.rules.specs.declared.key.Key.{Key}
 use Rattle.record.specs.declared.row.Row.{Row}
+use Rattle.record.specs.declared.symbol.Symbol.{Symbol}
 use Rattle.model.specs.Feed.{swept, traded, sent}
 use Rattle.model.specs.Flags.{cash}
 use Rattle.model.specs.Names.{aCash, aSettlement, aSummary, aTaxRate, aTrade, named}
@@ -135,7 +136,7 @@ module _ {rs m : List Row} (book : SoundBook rs) (lead : Leads rs m) where
       omega arith
 
   -- ---- S8
-  lots-same : (a y : ℕ) → count (lotOf a y) (swept m) ≡ count (lotOf a y) rs
+  lots-same : (a : ℕ) (y : Symbol) → count (lotOf a y) (swept m) ≡ count (lotOf a y) rs
   lots-same a y =
       calm-count lead (lotOf a y)
       (calm-kind kindLot refl (lotOf a y) false (λ x n. rw (ne-eqb (x .kind) kindLot n)))

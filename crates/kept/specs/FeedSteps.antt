@@ -17,6 +17,7 @@ use Rattle.laws.specs.Sort.{count-sort, of-sort}
 use Rattle.laws.specs.Tests.{and-left, and-right}
 use Rattle.laws.specs.Puts.{count-less, put-total}
 use Rattle.record.specs.Codes.{kindRequest, kindSecurity, kindTrade, pending, submitted}
+use Rattle.record.specs.Symbol.{sameSymbol, symbol-same}
 use Rattle.record.specs.declared.row.Row.{Row}
 use Rattle.rules.specs.Rules.{feedInput}
 use Rattle.rules.specs.Ranges.{volume}
@@ -101,7 +102,7 @@ module _ (e : Row) (rs : List Row) (r : Row) (p : pends rs (r .id) ≡ true) whe
   }
 
   free-next : 1 ≤ free rs → free (submit e rs r) + 1 ≡ free rs
-  unfolding sameRow count
+  unfolding sameRow sameSymbol count
   free-next s =
       let h = historyRow submitted (r .id) (e .time) in
       let first = put-total sameRow same-rows row-itself (λ (x : Row). bit (sameRow nothing x)) nothing h rs s in
@@ -160,7 +161,7 @@ module _ (rs : List Row) (e : Row) where
   unfolding submits
   chosen-wait t m =
       let q = keep-from (triggered rs e) t rs (of-sort lower (keep (triggered rs e) rs) t m) .1 in
-      let on = eqb (t .symbol) (e .symbol) in
+      let on = sameSymbol (t .symbol) (e .symbol) in
       and-right (is kindRequest t) (pends rs (t .id))
       (and-left (waits rs t) on (and-left (waits rs t && on) (reached e t) q))
 
@@ -173,7 +174,7 @@ module _ (rs : List Row) (e : Row) where
       let less =
       count-less (λ t. triggered rs e t && q t) (hasKey (aRequest i)) rs
       (λ t m h.
-      let on = eqb (t .symbol) (e .symbol) in
+      let on = sameSymbol (t .symbol) (e .symbol) in
       let w = and-left (triggered rs e t) (q t) h in
       own-number kindRequest refl i t
       (and-left (is kindRequest t) (pends rs (t .id))
@@ -222,7 +223,7 @@ module _ (f : Fed) (e : Row) (es : List Row) (known : there (aSecurity (e .symbo
       → priced .m1 + e .n2 ≤ volume .high
   fits-now h =
       let next = volume-next f e (e .symbol) known in
-      let same = ap (λ (b : Bool). cond b (e .n2) 0) (eq-eqb (e .symbol) (e .symbol) refl) in
+      let same = ap (λ (b : Bool). cond b (e .n2) 0) (symbol-same (e .symbol) (e .symbol) refl) in
       let last = volume-after (e .symbol) (applied f e) es (there-next f e (e .symbol) ∙ known) in
       let most =
       leb-true (found (aSecurity (e .symbol)) (run applied (applied f e) es .rows) .m1) (volume .high) h

@@ -8,6 +8,7 @@ use lib.Dec.{eqb}
 use borrow.Author.Tests.{ne-eqb}
 use Rattle.laws.specs.Search.{total}
 use Rattle.record.specs.Codes.{kindCustomerRate, kindRequest}
+use Rattle.record.specs.Symbol.{sameSymbol}
 use Rattle.record.specs.declared.row.Row.{Row}
 use Rattle.model.specs.Names.{aRequest, aTaxRate}
 use Rattle.model.specs.Rows.{found, hasKey, is}
@@ -17,7 +18,7 @@ use Rattle.facts.specs.Keys.{OfKind, key-of}
 -- a request that agrees with a trade of an account with this broker
 abbrev pub agreesBy : ℕ → Row → Row → Bool
 agreesBy broker t r =
-    hasKey (aRequest (t .id)) r && eqb (r .form) (t .form) && eqb (r .symbol) (t .symbol) && eqb (r .n1) (t .n1)
+    hasKey (aRequest (t .id)) r && eqb (r .form) (t .form) && sameSymbol (r .symbol) (t .symbol) && eqb (r .n1) (t .n1)
     && eqb (r .n2) (t .n2) && eqb (r .party) broker
 
 pub agrees-not : (broker : ℕ) (t r : Row) → hasKey (aRequest (t .id)) r ≡ false → agreesBy broker t r ≡ false

@@ -7,6 +7,7 @@ use Prim.Native.Nat.{ℕ, _%_, _≤_}
 use native.Mathlib.Omega.{arith}
 use lib.Dec.{leb}
 use Rattle.record.specs.Codes.{kindAccount, kindRequest, kindTrade, kindTradeHistory, pending, submitted, tms}
+use Rattle.record.specs.Symbol.{symbolNumber}
 use Rattle.record.specs.declared.row.Row.{Row}
 use Rattle.rules.specs.Meaning.{Fits, OrderInput, means-account, means-fits, means-order-input}
 use Rattle.rules.specs.Ranges.{_⋯_, any64, charged, fee, flags, form, id, m1, m2, n1, n2, n3, n4, number, party}
@@ -64,7 +65,7 @@ module _ {rs : List Row} {input : Row} {broker no cost charge commission : ℕ}
   typed = field form (input .form) tradeType (asked .0 .0 .2 .0) (asked .0 .0 .2 .1)
 
   abbrev traded : Field
-  traded = field symbol (input .symbol) any64 (omega arith) (asked .0 .0 .2 .2 .2 .2 .2 .2 .1)
+  traded = field symbol (symbolNumber (input .symbol)) any64 (omega arith) (asked .0 .0 .2 .2 .2 .2 .2 .2 .1)
 
   abbrev many : Field
   many = field n1 (input .n1) shares (asked .0 .0 .2 .2 .2 .2 .2 .2 .2 .0) (asked .0 .0 .2 .2 .2 .2 .2 .2 .2 .1)

@@ -12,8 +12,9 @@ use Rattle.laws.specs.Keep.{count-has}
 use Rattle.laws.specs.Search.{count}
 use Rattle.laws.specs.Puts.{count-no}
 use Rattle.record.specs.Codes.{kindRequest, kindTrade, kindTradeHistory, pending, submitted, tlb, tms}
-use Rattle.record.specs.Key.{among, byId, keyOf}
-use Rattle.record.specs.declared.key.Key.{Key}
+use Rattle.rules.specs.Key.{among, byId, keyOf}
+use Rattle.record.specs.Symbol.{symbol-same}
+use Rattle.rules.specs.declared.key.Key.{Key}
 use Rattle.record.specs.declared.row.Row.{Row}
 use Rattle.model.specs.Names.{aHistory, aRequest, anAccount}
 use Rattle.model.specs.Order.{firstStatus}
@@ -99,7 +100,7 @@ module _ {rs : List Row} {input : Row} {broker number price charge commission : 
         λ x z. agrees-of by (trade o) x (eqb-false (x .kind) kindRequest z)
         in
         let right : p (request o) ≡ true =
-        all-six new-request (eq-eqb (input .form) (input .form) refl) (eq-eqb (input .symbol) (input .symbol) refl)
+        all-six new-request (eq-eqb (input .form) (input .form) refl) (symbol-same (input .symbol) (input .symbol) refl)
         (eq-eqb (input .n1) (input .n1) refl) (eq-eqb price price refl)
         (eq-eqb broker by (sym (broker-same (trade o) ∙ o .broker-is)))
         in

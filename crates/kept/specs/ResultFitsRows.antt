@@ -8,6 +8,7 @@ use native.Mathlib.Omega.{arith}
 use lib.IntN.{ℤ, natAbs}
 use Rattle.record.specs.Codes.{completed, kindCash, kindLot, kindLotHistory, kindSettlement, kindSummary}
 use Rattle.record.specs.Codes.{kindTradeHistory}
+use Rattle.record.specs.Symbol.{symbolNumber}
 use Rattle.record.specs.declared.row.Row.{Row}
 use Rattle.rules.specs.Meaning.{Account, Broker, Cash, Lot, LotHistory, Settlement, Summary, Trade, TradeHistory}
 use Rattle.rules.specs.Ranges.{_⋯_, any32, any64, brokerTrades, cashFlag, commissionTotal, dueTime, fee, flags, id}
@@ -52,7 +53,7 @@ module _ (t : Row) (fit : Trade t) where
   holder = field party (t .party) number (fit .0 .0 .0 .2 .2 .2 .2 .0) (fit .0 .0 .0 .2 .2 .2 .2 .1)
 
   abbrev traded : Field
-  traded = field symbol (t .symbol) any64 (omega arith) (fit .0 .0 .0 .2 .2 .2 .2 .2 .2 .1)
+  traded = field symbol (symbolNumber (t .symbol)) any64 (omega arith) (fit .0 .0 .0 .2 .2 .2 .2 .2 .2 .1)
 
   pub history-fits : (at : ℕ) → at ≤ time .high → TradeHistory (historyRow completed (t .id) at)
   history-fits at h =

@@ -20,7 +20,9 @@ use Rattle.laws.specs.Keep.{count-has}
 use Rattle.laws.specs.Tests.{and-both, and-left, and-right}
 use Rattle.record.specs.Codes.{kindFree, kindLot, kindSummary}
 use Rattle.record.specs.Signed.{toZ-high}
+use Rattle.record.specs.Symbol.{same-symbol, sameSymbol, symbol-same}
 use Rattle.record.specs.declared.row.Row.{Row}
+use Rattle.record.specs.declared.symbol.Symbol.{Symbol}
 use Rattle.rules.specs.Meaning.{means-fits, means-lot}
 use Rattle.rules.specs.Rules.{as-kind}
 use Rattle.model.specs.Edit.{bits64}
@@ -100,7 +102,7 @@ module _ {rs : List Row} {t summary account broker : Row} {cs : List Closing}
       (λ e.
       let h = r .s-held e in
       let k = summary-own r n space v e in
-      ap₂ (λ (a y : ℕ). sumZ (sharesOf a y) rs) (sym (key-party (t .party) (t .symbol) summary k))
+      ap₂ (λ (a : ℕ) (y : Symbol). sumZ (sharesOf a y) rs) (sym (key-party (t .party) (t .symbol) summary k))
       (sym (key-symbol (t .party) (t .symbol) summary k))
       ∙ book r n .s8 summary (h .0) .1 (h .1) .1)
 
@@ -142,10 +144,10 @@ module _ {rs : List Row} {t summary account broker : Row} {cs : List Closing}
         (one-after r n space v)
 
     -- ---- summaries that are there
-    key-off : (a y : ℕ) (x : Row) → is kindSummary x ≡ false → bit (hasKey (aSummary a y) x) ≡ 0
+    key-off : (a : ℕ) (y : Symbol) (x : Row) → is kindSummary x ≡ false → bit (hasKey (aSummary a y) x) ≡ 0
     key-off a y x e = rw (by-holder a y x, e)
 
-    there-law : (a y : ℕ)
+    there-law : (a : ℕ) (y : Symbol)
         → count (hasKey (aSummary a y)) now + cond (is kindFree summary) 0 (bit (hasKey (aSummary a y) summary))
         ≡ count (hasKey (aSummary a y)) rs
         + (cond (is kindFree summary) (bit (hasKey (aSummary a y) (summaryOpened t summary))) 0
@@ -155,7 +157,7 @@ module _ {rs : List Row} {t summary account broker : Row} {cs : List Closing}
     there-law a y = summaries-law r n space (λ x. bit (hasKey (aSummary a y) x)) (key-off a y)
 
     -- that of another account or symbol stays
-    there-apart : (a y : ℕ) → (eqb (t .party) a && eqb (t .symbol) y) ≡ false → There (aSummary a y) rs
+    there-apart : (a : ℕ) (y : Symbol) → (eqb (t .party) a && sameSymbol (t .symbol) y) ≡ false → There (aSummary a y) rs
         → There (aSummary a y) now
     there-apart a y apart h =
         let law = there-law a y in
@@ -166,7 +168,7 @@ module _ {rs : List Row} {t summary account broker : Row} {cs : List Closing}
         let q : hasKey (aSummary a y) summary ≡ false =
         by-holder a y summary
         ∙ rw (key-party (t .party) (t .symbol) summary k, key-symbol (t .party) (t .symbol) summary k)
-        (third (is kindSummary summary) (eqb (t .party) a) (eqb (t .symbol) y) apart)
+        (third (is kindSummary summary) (eqb (t .party) a) (sameSymbol (t .symbol) y) apart)
         in
         rw (e, q))
         in
@@ -244,29 +246,29 @@ module _ {rs : List Row} {t summary account broker : Row} {cs : List Closing}
         (λ g. let w = written-comes g .0 in count-has own written now (w .0) (w .1))
 
     -- ---- a row of another account or symbol was there
-    was-there : (x : Row) → (eqb (t .party) (x .party) && eqb (t .symbol) (x .symbol)) ≡ false
+    was-there : (x : Row) → (eqb (t .party) (x .party) && sameSymbol (t .symbol) (x .symbol)) ≡ false
         → List·Memᴰ x rs ⊎ ((x .party ≡ t .party) × (x .symbol ≡ t .symbol)) → List·Memᴰ x rs
     was-there x e =
         ⊎-elim (λ h. h)
         (λ h.
         no e
-        (and-both (eqb (t .party) (x .party)) (eqb (t .symbol) (x .symbol)) (eq-eqb (t .party) (x .party) (sym (h .0)))
-        (eq-eqb (t .symbol) (x .symbol) (sym (h .1)))))
+        (and-both (eqb (t .party) (x .party)) (sameSymbol (t .symbol) (x .symbol)) (eq-eqb (t .party) (x .party) (sym (h .0)))
+        (symbol-same (t .symbol) (x .symbol) (sym (h .1)))))
 
     -- ---- a lot
     lot-right : (l : Row) → List·Memᴰ l now → l .kind ≡ kindLot → LotRight now l
     lot-right l m k =
         let o = lot-origin r n space v l m k in
-        by-cases (eqb (t .party) (l .party) && eqb (t .symbol) (l .symbol))
+        by-cases (eqb (t .party) (l .party) && sameSymbol (t .symbol) (l .symbol))
         (λ e.
         let p : t .party ≡ l .party =
-        eqb-true (t .party) (l .party) (and-left (eqb (t .party) (l .party)) (eqb (t .symbol) (l .symbol)) e)
+        eqb-true (t .party) (l .party) (and-left (eqb (t .party) (l .party)) (sameSymbol (t .symbol) (l .symbol)) e)
         in
         let s : t .symbol ≡ l .symbol =
-        eqb-true (t .symbol) (l .symbol) (and-right (eqb (t .party) (l .party)) (eqb (t .symbol) (l .symbol)) e)
+        same-symbol (t .symbol) (l .symbol) (and-right (eqb (t .party) (l .party)) (sameSymbol (t .symbol) (l .symbol)) e)
         in
         let held : ofLots l ≡ true =
-        rw (eq-eqb (l .kind) kindLot k, eq-eqb (l .party) (t .party) (sym p), eq-eqb (l .symbol) (t .symbol) (sym s))
+        rw (eq-eqb (l .kind) kindLot k, eq-eqb (l .party) (t .party) (sym p), symbol-same (l .symbol) (t .symbol) (sym s))
         in
         let there : There (aSummary (l .party) (l .symbol)) now = rw (← p, ← s) (there-own l m held) in
         ((o .1, signs-right r n space v l m held), there))
@@ -293,13 +295,13 @@ module _ {rs : List Row} {t summary account broker : Row} {cs : List Closing}
 
     summary-right : (s : Row) → List·Memᴰ s now → s .kind ≡ kindSummary → SummaryRight now s
     summary-right s m k =
-        by-cases (eqb (t .party) (s .party) && eqb (t .symbol) (s .symbol))
+        by-cases (eqb (t .party) (s .party) && sameSymbol (t .symbol) (s .symbol))
         (λ e.
-        let p = and-left (eqb (t .party) (s .party)) (eqb (t .symbol) (s .symbol)) e in
-        let q = and-right (eqb (t .party) (s .party)) (eqb (t .symbol) (s .symbol)) e in
+        let p = and-left (eqb (t .party) (s .party)) (sameSymbol (t .symbol) (s .symbol)) e in
+        let q = and-right (eqb (t .party) (s .party)) (sameSymbol (t .symbol) (s .symbol)) e in
         own-right s m
         (has-holder (t .party) (t .symbol) s k (sym (eqb-true (t .party) (s .party) p))
-        (sym (eqb-true (t .symbol) (s .symbol) q))))
+        (sym (same-symbol (t .symbol) (s .symbol) q))))
         (λ e.
         let h = book r n .s8 s (was-there s e (summary-origin r n space v s m k)) .1 k in
         let c = count-untouched r n space v (s .party) (s .symbol) e (lotOf (s .party) (s .symbol)) (λ x q. q) in

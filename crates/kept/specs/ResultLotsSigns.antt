@@ -15,7 +15,9 @@ use Rattle.laws.specs.Search.{bit, count, keep, sumZ, the, total}
 use Rattle.laws.specs.Tests.{_⇔_, and-both, and-left, and-right}
 use Rattle.laws.specs.Total.{total-zero}
 use Rattle.record.specs.Codes.{kindLot}
+use Rattle.record.specs.Symbol.{same-symbol, sameSymbol}
 use Rattle.record.specs.declared.row.Row.{Row}
+use Rattle.record.specs.declared.symbol.Symbol.{Symbol}
 use Rattle.model.specs.Lots.{Closing, closes}
 use Rattle.model.specs.Money.{buys}
 use Rattle.model.specs.Rows.{is, nothing, sameRow}
@@ -32,30 +34,31 @@ use Rattle.kept.specs.ResultLotsSum.{Walked, left-other, no-shares, not-
 use Rattle.kept.specs.ResultEach.{lotAfter, lotOpened}
 
 -- ---- what a lot of an account and symbol is
-module _ (account symbol : ℕ) (x : Row) (e : lotOf account symbol x ≡ true) where
+module _ (account : ℕ) (symbol : Symbol) (x : Row) (e : lotOf account symbol x ≡ true) where
   pub lot-kind : x .kind ≡ kindLot
   lot-kind =
       eqb-true (x .kind) kindLot (and-left (is kindLot x) (eqb (x .party) account)
-      (and-left (is kindLot x && eqb (x .party) account) (eqb (x .symbol) symbol) e))
+      (and-left (is kindLot x && eqb (x .party) account) (sameSymbol (x .symbol) symbol) e))
 
   pub lot-party : x .party ≡ account
   lot-party =
       eqb-true (x .party) account (and-right (is kindLot x) (eqb (x .party) account)
-      (and-left (is kindLot x && eqb (x .party) account) (eqb (x .symbol) symbol) e))
+      (and-left (is kindLot x && eqb (x .party) account) (sameSymbol (x .symbol) symbol) e))
 
   pub lot-symbol : x .symbol ≡ symbol
   lot-symbol =
-      eqb-true (x .symbol) symbol (and-right (is kindLot x && eqb (x .party) account) (eqb (x .symbol) symbol) e)
+      same-symbol (x .symbol) symbol (and-right (is kindLot x && eqb (x .party) account) (sameSymbol (x .symbol) symbol) e)
 
 -- it is of no other
 pub third : (k p s : Bool) → (p && s) ≡ false → (k && p && s) ≡ false
 third true p s q = q
 third false p s q = refl
 
-not-both : (account symbol a y : ℕ) (x : Row) → (eqb a account && eqb y symbol) ≡ false → lotOf a y x ≡ true
+not-both : (account : ℕ) (symbol : Symbol) (a : ℕ) (y : Symbol) (x : Row)
+    → (eqb a account && sameSymbol y symbol) ≡ false → lotOf a y x ≡ true
     → lotOf account symbol x ≡ false
 not-both account symbol a y x e h =
-    rw (lot-party a y x h, lot-symbol a y x h) (third (is kindLot x) (eqb a account) (eqb y symbol) e)
+    rw (lot-party a y x h, lot-symbol a y x h) (third (is kindLot x) (eqb a account) (sameSymbol y symbol) e)
 
 -- one that passes is there where one is counted
 module _ (p : Row → Bool) (l : List Row) (h : 1 ≤ count p l) where
@@ -222,7 +225,7 @@ module _ {rs : List Row} {t summary account broker : Row} {cs : List Closing}
         one-after
 
   -- ---- another account or symbol
-  module _ (a y : ℕ) (apart : (eqb (t .party) a && eqb (t .symbol) y) ≡ false) where
+  module _ (a : ℕ) (y : Symbol) (apart : (eqb (t .party) a && sameSymbol (t .symbol) y) ≡ false) where
     untouched : (μ : Row → ℕ) → ((x : Row) → lotOf a y x ≡ false → μ x ≡ 0)
         → total μ (after r n space) ≡ total μ rs
     untouched μ none =

@@ -17,7 +17,9 @@ use Rattle.laws.specs.Keep.{keep-from}
 use Rattle.laws.specs.Search.{count, keep, sumZ, total}
 use Rattle.laws.specs.Total.{total-on, total-parts, total-zero}
 use Rattle.record.specs.Codes.{kindLot}
+use Rattle.record.specs.Symbol.{symbol-same}
 use Rattle.record.specs.declared.row.Row.{Row}
+use Rattle.record.specs.declared.symbol.Symbol.{Symbol}
 use Rattle.rules.specs.Ranges.{moneyMost, sharesMost}
 use Rattle.model.specs.Lots.{Closing, closes, size}
 use Rattle.model.specs.Money.{buys}
@@ -56,10 +58,10 @@ pub record Walked (rs : List Row) (t summary : Row) (cs : List Closing) (n : Sum
   pub near : natAbs (toZ w64 (summary .m1)) ≤ moneyMost
 
 -- ---- a row that is no lot of an account and symbol
-pub not-lot : (account symbol : ℕ) (x : Row) → is kindLot x ≡ false → lotOf account symbol x ≡ false
+pub not-lot : (account : ℕ) (symbol : Symbol) (x : Row) → is kindLot x ≡ false → lotOf account symbol x ≡ false
 not-lot account symbol x e = rw e
 
-pub no-shares : (d : Bool) (account symbol : ℕ) (x : Row) → lotOf account symbol x ≡ false
+pub no-shares : (d : Bool) (account : ℕ) (symbol : Symbol) (x : Row) → lotOf account symbol x ≡ false
     → part d (sharesOf account symbol x) ≡ 0
 no-shares d account symbol x e = rw e (zero-sides d)
 
@@ -106,7 +108,7 @@ module _ {rs : List Row} {t summary account broker : Row} {cs : List Closing}
       bits-tell (signed (t .form) (n .left)) (omega arith)
 
   pub opened-held : lotOf (t .party) (t .symbol) (lotOpened t n) ≡ true
-  opened-held = rw (eq-eqb (t .party) (t .party) refl, eq-eqb (t .symbol) (t .symbol) refl)
+  opened-held = rw (eq-eqb (t .party) (t .party) refl, symbol-same (t .symbol) (t .symbol) refl)
 
   pub opened-short : 1 ≤ n .left → short (lotOpened t n) ≡ not (buys (t .form))
   opened-short h = ap (λ (z : ℤ). ltZ z (pos 0)) opened-is ∙ signed-short (buys (t .form)) (n .left) h

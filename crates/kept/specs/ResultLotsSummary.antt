@@ -16,7 +16,9 @@ use Rattle.laws.specs.Tests.{and-left, and-right}
 use Rattle.laws.specs.Total.{total-zero}
 use Rattle.record.specs.Codes.{kindFree, kindSummary}
 use Rattle.record.specs.Signed.{eq-parts, parts-add}
+use Rattle.record.specs.Symbol.{same-symbol, sameSymbol, symbol-same}
 use Rattle.record.specs.declared.row.Row.{Row}
+use Rattle.record.specs.declared.symbol.Symbol.{Symbol}
 use Rattle.model.specs.Lots.{Closing, size}
 use Rattle.model.specs.Names.{aSummary}
 use Rattle.model.specs.Rows.{found, hasKey, is, nothing, sameRow}
@@ -44,7 +46,7 @@ count-below p f (x ∷ k) h =
     omega arith
 
 -- ---- lots and their sum
-module _ (a y : ℕ) (l : List Row) where
+module _ (a : ℕ) (y : Symbol) (l : List Row) where
   -- no lots, no shares
   pub no-lots : count (lotOf a y) l ≡ 0 → sumZ (sharesOf a y) l ≡ pos 0
   no-lots e =
@@ -83,22 +85,22 @@ pub zero-add : (z : ℤ) → pos 0 +ℤ z ≡ z
 zero-add z = eq-parts (pos 0 +ℤ z) z (omega (arith, parts-add (pos 0) z))
 
 -- ---- what a row of a summary's key is
-module _ (a y : ℕ) (x : Row) (e : hasKey (aSummary a y) x ≡ true) where
-  abbrev holder : (ofParty kindSummary a x && eqb (x .symbol) y) ≡ true
+module _ (a : ℕ) (y : Symbol) (x : Row) (e : hasKey (aSummary a y) x ≡ true) where
+  abbrev holder : (ofParty kindSummary a x && sameSymbol (x .symbol) y) ≡ true
   holder = sym (by-holder a y x) ∙ e
 
   pub key-party : x .party ≡ a
   key-party =
       eqb-true (x .party) a (and-right (is kindSummary x) (eqb (x .party) a)
-      (and-left (ofParty kindSummary a x) (eqb (x .symbol) y) holder))
+      (and-left (ofParty kindSummary a x) (sameSymbol (x .symbol) y) holder))
 
   pub key-symbol : x .symbol ≡ y
-  key-symbol = eqb-true (x .symbol) y (and-right (ofParty kindSummary a x) (eqb (x .symbol) y) holder)
+  key-symbol = same-symbol (x .symbol) y (and-right (ofParty kindSummary a x) (sameSymbol (x .symbol) y) holder)
 
-pub has-holder : (a y : ℕ) (x : Row) → x .kind ≡ kindSummary → x .party ≡ a → x .symbol ≡ y
+pub has-holder : (a : ℕ) (y : Symbol) (x : Row) → x .kind ≡ kindSummary → x .party ≡ a → x .symbol ≡ y
     → hasKey (aSummary a y) x ≡ true
 has-holder a y x k p s =
-    by-holder a y x ∙ rw (eq-eqb (x .kind) kindSummary k, eq-eqb (x .party) a p, eq-eqb (x .symbol) y s)
+    by-holder a y x ∙ rw (eq-eqb (x .kind) kindSummary k, eq-eqb (x .party) a p, symbol-same (x .symbol) y s)
 
 module _ {rs : List Row} {t summary account broker : Row} {cs : List Closing}
     (r : Read rs t summary account broker cs) (n : Sums)

@@ -15,6 +15,7 @@ use Rattle.laws.specs.Sort.{count-sort, of-sort}
 use Rattle.laws.specs.Tests.{_⇔_, and-left, and-right}
 use Rattle.record.specs.Codes.{kindFree, kindLot, kindTrade, submitted}
 use Rattle.record.specs.declared.row.Row.{Row}
+use Rattle.record.specs.declared.symbol.Symbol.{Symbol}
 use Rattle.rules.specs.Meaning.{Lot, Trade, means-fits, means-lot, means-trade}
 use Rattle.rules.specs.Ranges.{sharesMost}
 use Rattle.rules.specs.Rules.{as-kind}
@@ -70,7 +71,7 @@ module _ (form price : ℕ) where
       (rw (q, whole) (ih .0), λ p. let k = ih .1 p in rw q (omega arith))
 
 -- ---- the lots of a trade
-module _ (rs : List Row) (good : sound rs ≡ true) (form flags account symbol : ℕ) where
+module _ (rs : List Row) (good : sound rs ≡ true) (form flags account : ℕ) (symbol : Symbol) where
   abbrev lots : List Row
   lots = lotsFor rs form flags account symbol
 

@@ -51,7 +51,7 @@ customerRateOf r = record {
 unfoldable pub accountOf : Row → Account
 accountOf r = record {
   no = record { 0 = r .party };
-  taxed = r .form;
+  «tax_status» = r .form;
   broker = record { 0 = r .n1 };
   customer = record { 0 = r .n2 };
   balance = cents (toZ w64 (r .m1));
@@ -59,16 +59,16 @@ accountOf r = record {
 
 unfoldable pub securityOf : Row → Security
 securityOf r = record {
-  symbol = record { 0 = r .symbol };
+  symbol = r .symbol;
   exchange = r .form;
-  last = record { 0 = r .n1 };
+  «last_price» = record { 0 = r .n1 };
   volume = shares (toZ w64 (r .m1));
   time = record { 0 = r .time };
 }
 
 unfoldable pub bandOf : Row → Band
 bandOf r = record {
-  form = r .form;
+  «trade_type» = r .form;
   tier = r .status;
   exchange = r .flags;
   from = shares (pos (r .n1));
@@ -78,7 +78,7 @@ bandOf r = record {
 
 unfoldable pub chargeOf : Row → Charge
 chargeOf r = record {
-  form = r .form;
+  «trade_type» = r .form;
   tier = r .status;
   amount = cents (pos (r .n1));
 }
@@ -86,11 +86,11 @@ chargeOf r = record {
 unfoldable pub tradeOf : Row → Trade
 tradeOf r = record {
   no = record { 0 = r .id };
-  form = r .form;
+  «trade_type» = r .form;
   status = r .status;
   flags = r .flags;
   account = record { 0 = r .party };
-  symbol = record { 0 = r .symbol };
+  symbol = r .symbol;
   shares = shares (pos (r .n1));
   bid = record { 0 = r .n2 };
   price = record { 0 = r .n3 };
@@ -103,9 +103,9 @@ tradeOf r = record {
 unfoldable pub requestOf : Row → Request
 requestOf r = record {
   no = record { 0 = r .id };
-  form = r .form;
+  «trade_type» = r .form;
   broker = record { 0 = r .party };
-  symbol = record { 0 = r .symbol };
+  symbol = r .symbol;
   shares = shares (pos (r .n1));
   bid = record { 0 = r .n2 };
 }
@@ -121,7 +121,7 @@ unfoldable pub lotOf : Row → Lot
 lotOf r = record {
   no = record { 0 = r .id };
   account = record { 0 = r .party };
-  symbol = record { 0 = r .symbol };
+  symbol = r .symbol;
   price = record { 0 = r .n1 };
   shares = shares (toZ w64 (r .m1));
   time = record { 0 = r .time };
@@ -130,7 +130,7 @@ lotOf r = record {
 unfoldable pub summaryOf : Row → Summary
 summaryOf r = record {
   account = record { 0 = r .party };
-  symbol = record { 0 = r .symbol };
+  symbol = r .symbol;
   shares = shares (toZ w64 (r .m1));
 }
 

@@ -1,5 +1,8 @@
 -- Money and counts of shares as the declared tuple structs, made of a number. Assumes nothing.
+use Prim.Native.Nat.{ℕ, _%_}
 use lib.IntN.{ℤ}
+use mir.Syntax.{w64}
+use mir.Val.{ofZ}
 use Rattle.kinds.specs.declared.units.Cents.{Cents}
 use Rattle.kinds.specs.declared.units.Shares.{Shares}
 
@@ -8,3 +11,7 @@ cents z = record { 0 = z }
 
 abbrev pub shares : ℤ → Shares
 shares z = record { 0 = z }
+
+-- the lower 32 bits of a signed number
+abbrev pub low : ℤ → ℕ
+low z = ofZ w64 z % 4294967296

@@ -1,5 +1,5 @@
-// The limits of a row's fields: a range for each, unused fields at zero. Every number of the rules stands here or
-// with its kind, once.
+// What a kind says of its rows: a range for each field, unused fields at zero; the rules that are no range; and the
+// fields that make the key. Every number of the rules stands here or with its kind, once.
 
 // The lowest number and the highest.
 pub struct R8(pub u8, pub u8);
@@ -48,6 +48,81 @@ impl Limits {
     };
 }
 
+// A rule that compares fields.
+pub enum Clause {
+    Nothing,
+    // A band's from is at most its to.
+    FromTo,
+    // A trade has its price exactly when it is completed, and a tax only then.
+    Completed,
+    // A lot and a summary are of some shares.
+    NotZero,
+    // A lot history's before and after differ.
+    Unequal,
+    // An order at the market has no bid, and every other has one.
+    Market,
+}
+
+// The rule of a kind.
+pub struct Rule {
+    pub limits: Limits,
+    // How far from zero the signed number m1 may be; zero where that is not asked.
+    pub m1: u64,
+    // The same of n1 and n2.
+    pub n1n2: u32,
+    // Whether there is a symbol.
+    pub symbol: bool,
+    pub clause: Clause,
+}
+
+impl Rule {
+    // A record of zeros is free; the rule of a kind adds to this.
+    pub const FREE: Rule = Rule {
+        limits: Limits::NONE,
+        m1: 0,
+        n1n2: 0,
+        symbol: false,
+        clause: Clause::Nothing,
+    };
+}
+
+// The fields that make a key.
+pub struct Marks {
+    pub form: bool,
+    pub status: bool,
+    pub flags: bool,
+    pub party: bool,
+    pub id: bool,
+    pub symbol: bool,
+    pub n1: bool,
+    pub m2: bool,
+}
+
+impl Marks {
+    pub const NONE: Marks = Marks {
+        form: false,
+        status: false,
+        flags: false,
+        party: false,
+        id: false,
+        symbol: false,
+        n1: false,
+        m2: false,
+    };
+
+    // A party, a rate: most of what stands without trade.
+    pub const PARTY: Marks = Marks {
+        party: true,
+        ..Marks::NONE
+    };
+
+    // A trade, and what it leaves.
+    pub const ID: Marks = Marks {
+        id: true,
+        ..Marks::NONE
+    };
+}
+
 // The ranges that several kinds share.
 pub struct Ranges {}
 
@@ -67,12 +142,21 @@ impl Ranges {
 
     pub const SHARES_MOST: u32 = 999_999;
 
-    // A rate of 100 percent, and the most that a customer's rates may sum to.
+    // A tax rate of 100 percent, and the most that a customer's rates may sum to.
     pub const RATE_MOST: u32 = 100_000;
 
+    // A commission rate of 100 percent.
+    pub const COMMISSION_MOST: u32 = 10_000;
+
     pub const SHARES: R32 = R32(1, Ranges::SHARES_MOST);
+
     // Seconds from 2000-01-01.
-    pub const TIME: R32 = R32(0, 4_000_000_000);
+    pub const TIME_MOST: u32 = 4_000_000_000;
+
+    pub const TIME: R32 = R32(0, Ranges::TIME_MOST);
+
+    // From a trade to its settlement.
+    pub const SETTLEMENT_SECONDS: u32 = 172_800;
 
     pub const TRADE_TYPE: R8 = R8(1, 5);
 
@@ -89,4 +173,9 @@ impl Ranges {
     pub const VOLUME_MOST: u64 = 999_999_999_999;
     // A balance, a settlement and a cash row's amount, either way from zero.
     pub const MONEY_MOST: u64 = 999_999_999_999_999;
+
+    // The most records of a book, and of an input.
+    pub const RECORDS: usize = 4_096;
+
+    pub const INPUTS: usize = 20;
 }

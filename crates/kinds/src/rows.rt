@@ -1,11 +1,15 @@
-// The sixteen kinds of row: where each has its fields, the limits of each field, and a row of the kind from its bytes.
+// The sixteen kinds of row: where each has its fields, their limits, the fields of its key, a value of the kind from a
+// record's bytes, and, of the kinds that the calls write, the row of a value.
 ghost use mathlib.Core.Path.{_≡_};
 ghost use lib.ListN.{length};
 ghost use Rattle.record.specs.Grid.{decode};
 ghost use Rattle.kinds.specs.Kinds.{brokerOf, customerOf, taxRateOf, customerRateOf, accountOf, securityOf};
 ghost use Rattle.kinds.specs.Kinds.{bandOf, chargeOf, tradeOf, requestOf, tradeHistoryOf, lotOf, summaryOf};
 ghost use Rattle.kinds.specs.Kinds.{lotHistoryOf, settlementOf, cashOf};
+ghost use Rattle.kinds.specs.Written.{accountRow, brokerRow, cashRow, lotHistoryRow, lotRow, requestRow};
+ghost use Rattle.kinds.specs.Written.{securityRow, settlementRow, summaryRow, tradeHistoryRow, tradeRow};
 use crate::limits::Limits;
+use crate::limits::Marks;
 use crate::limits::R8;
 use crate::limits::R32;
 use crate::limits::R64;
@@ -20,12 +24,36 @@ use crate::units::PerTenThousand;
 use crate::units::Price;
 use crate::units::RateNo;
 use crate::units::Shares;
-use crate::units::Symbol;
 use crate::units::Time;
 use crate::units::TradeNo;
 use record::bytes;
 use record::codes::Kind;
 use record::row::Grid;
+use record::row::Row;
+use record::symbol::Symbol;
+
+// The row of a free record.
+struct Blank {}
+
+impl Blank {
+    const ROW: Row = Row {
+        kind: 0,
+        form: 0,
+        status: 0,
+        flags: 0,
+        party: 0,
+        id: 0,
+        symbol: Symbol::NONE,
+        n1: 0,
+        n2: 0,
+        n3: 0,
+        n4: 0,
+        m1: 0,
+        m2: 0,
+        time: 0,
+        n5: 0,
+    };
+}
 
 // Kind 1, a broker: the number of trades completed and the commission earned.
 pub struct Broker {
@@ -51,6 +79,8 @@ impl Broker {
         ..Limits::NONE
     };
 
+    pub const KEY: Marks = Marks::PARTY;
+
     pub fn from_bytes(part: &[u8]) -> Broker
         requires { ⌜ length (now part) ≡ 64 ⌝ }
         ensures { λ r. ⌜ r ≡ brokerOf (decode (now (part .entry))) ⌝ }
@@ -60,6 +90,18 @@ impl Broker {
             trades: bytes::u32_at(part, Broker::TRADES),
             commission: units::cents_at(part, Broker::COMMISSION),
         }
+    }
+
+    pub fn row(self) -> Row
+        ensures { λ r. ⌜ r ≡ brokerRow self ⌝ }
+    {
+        let commission = self.commission;
+        let mut r = Blank::ROW;
+        r.kind = Broker::KIND;
+        r.party = self.no.0;
+        r.n1 = self.trades;
+        r.m1 = commission.bits();
+        r
     }
 }
 
@@ -82,6 +124,8 @@ impl Customer {
         party: Ranges::NUMBER,
         ..Limits::NONE
     };
+
+    pub const KEY: Marks = Marks::PARTY;
 
     pub fn from_bytes(part: &[u8]) -> Customer
         requires { ⌜ length (now part) ≡ 64 ⌝ }
@@ -114,6 +158,8 @@ impl TaxRate {
         ..Limits::NONE
     };
 
+    pub const KEY: Marks = Marks::PARTY;
+
     pub fn from_bytes(part: &[u8]) -> TaxRate
         requires { ⌜ length (now part) ≡ 64 ⌝ }
         ensures { λ r. ⌜ r ≡ taxRateOf (decode (now (part .entry))) ⌝ }
@@ -145,6 +191,11 @@ impl CustomerRate {
         ..Limits::NONE
     };
 
+    pub const KEY: Marks = Marks {
+        n1: true,
+        ..Marks::PARTY
+    };
+
     pub fn from_bytes(part: &[u8]) -> CustomerRate
         requires { ⌜ length (now part) ≡ 64 ⌝ }
         ensures { λ r. ⌜ r ≡ customerRateOf (decode (now (part .entry))) ⌝ }
@@ -159,7 +210,7 @@ impl CustomerRate {
 // Kind 5, an account of a customer with a broker.
 pub struct Account {
     pub no: AccountNo,
-    pub taxed: u8,
+    pub tax_status: u8,
     pub broker: BrokerNo,
     pub customer: CustomerNo,
     pub balance: Cents,
@@ -170,7 +221,7 @@ impl Account {
 
     pub const NO: usize = Grid::PARTY;
 
-    pub const TAXED: usize = Grid::FORM;
+    pub const TAX_STATUS: usize = Grid::FORM;
 
     pub const BROKER: usize = Grid::N1;
 
@@ -188,17 +239,33 @@ impl Account {
         ..Limits::NONE
     };
 
+    pub const KEY: Marks = Marks::PARTY;
+
     pub fn from_bytes(part: &[u8]) -> Account
         requires { ⌜ length (now part) ≡ 64 ⌝ }
         ensures { λ r. ⌜ r ≡ accountOf (decode (now (part .entry))) ⌝ }
     {
         Account {
             no: AccountNo(bytes::u32_at(part, Account::NO)),
-            taxed: part[Account::TAXED],
+            tax_status: part[Account::TAX_STATUS],
             broker: BrokerNo(bytes::u32_at(part, Account::BROKER)),
             customer: CustomerNo(bytes::u32_at(part, Account::CUSTOMER)),
             balance: units::cents_at(part, Account::BALANCE),
         }
+    }
+
+    pub fn row(self) -> Row
+        ensures { λ r. ⌜ r ≡ accountRow self ⌝ }
+    {
+        let balance = self.balance;
+        let mut r = Blank::ROW;
+        r.kind = Account::KIND;
+        r.form = self.tax_status;
+        r.party = self.no.0;
+        r.n1 = self.broker.0;
+        r.n2 = self.customer.0;
+        r.m1 = balance.bits();
+        r
     }
 }
 
@@ -206,7 +273,7 @@ impl Account {
 pub struct Security {
     pub symbol: Symbol,
     pub exchange: u8,
-    pub last: Price,
+    pub last_price: Price,
     pub volume: Shares,
     pub time: Time,
 }
@@ -218,7 +285,7 @@ impl Security {
 
     pub const EXCHANGE: usize = Grid::FORM;
 
-    pub const LAST: usize = Grid::N1;
+    pub const LAST_PRICE: usize = Grid::N1;
 
     pub const VOLUME: usize = Grid::M1;
 
@@ -234,23 +301,43 @@ impl Security {
         ..Limits::NONE
     };
 
+    pub const KEY: Marks = Marks {
+        symbol: true,
+        ..Marks::NONE
+    };
+
     pub fn from_bytes(part: &[u8]) -> Security
         requires { ⌜ length (now part) ≡ 64 ⌝ }
         ensures { λ r. ⌜ r ≡ securityOf (decode (now (part .entry))) ⌝ }
     {
         Security {
-            symbol: Symbol(bytes::symbol_at(part, Security::SYMBOL)),
+            symbol: Symbol::at(part, Security::SYMBOL),
             exchange: part[Security::EXCHANGE],
-            last: Price(bytes::u32_at(part, Security::LAST)),
+            last_price: Price(bytes::u32_at(part, Security::LAST_PRICE)),
             volume: units::shares_at(part, Security::VOLUME),
             time: Time(bytes::u32_at(part, Security::TIME)),
         }
+    }
+
+    pub fn row(self) -> Row
+        ensures { λ r. ⌜ r ≡ securityRow self ⌝ }
+    {
+        let symbol = self.symbol;
+        let volume = self.volume;
+        let mut r = Blank::ROW;
+        r.kind = Security::KIND;
+        r.form = self.exchange;
+        r.symbol = symbol;
+        r.n1 = self.last_price.0;
+        r.m1 = volume.bits();
+        r.time = self.time.0;
+        r
     }
 }
 
 // Kind 7, the commission rate for a number of shares, from and to.
 pub struct Band {
-    pub form: u8,
+    pub trade_type: u8,
     pub tier: u8,
     pub exchange: u8,
     pub from: Shares,
@@ -261,7 +348,7 @@ pub struct Band {
 impl Band {
     pub const KIND: u8 = Kind::BAND;
 
-    pub const FORM: usize = Grid::FORM;
+    pub const TRADE_TYPE: usize = Grid::FORM;
 
     pub const TIER: usize = Grid::STATUS;
 
@@ -280,8 +367,16 @@ impl Band {
         flags: Ranges::EXCHANGE,
         n1: Ranges::SHARES,
         n2: Ranges::SHARES,
-        n3: R32(0, 10_000),
+        n3: R32(0, Ranges::COMMISSION_MOST),
         ..Limits::NONE
+    };
+
+    pub const KEY: Marks = Marks {
+        form: true,
+        status: true,
+        flags: true,
+        n1: true,
+        ..Marks::NONE
     };
 
     pub fn from_bytes(part: &[u8]) -> Band
@@ -289,7 +384,7 @@ impl Band {
         ensures { λ r. ⌜ r ≡ bandOf (decode (now (part .entry))) ⌝ }
     {
         Band {
-            form: part[Band::FORM],
+            trade_type: part[Band::TRADE_TYPE],
             tier: part[Band::TIER],
             exchange: part[Band::EXCHANGE],
             from: units::shares_u32_at(part, Band::FROM),
@@ -301,7 +396,7 @@ impl Band {
 
 // Kind 8, the charge for a trade.
 pub struct Charge {
-    pub form: u8,
+    pub trade_type: u8,
     pub tier: u8,
     pub amount: Cents,
 }
@@ -309,7 +404,7 @@ pub struct Charge {
 impl Charge {
     pub const KIND: u8 = Kind::CHARGE;
 
-    pub const FORM: usize = Grid::FORM;
+    pub const TRADE_TYPE: usize = Grid::FORM;
 
     pub const TIER: usize = Grid::STATUS;
 
@@ -323,12 +418,18 @@ impl Charge {
         ..Limits::NONE
     };
 
+    pub const KEY: Marks = Marks {
+        form: true,
+        status: true,
+        ..Marks::NONE
+    };
+
     pub fn from_bytes(part: &[u8]) -> Charge
         requires { ⌜ length (now part) ≡ 64 ⌝ }
         ensures { λ r. ⌜ r ≡ chargeOf (decode (now (part .entry))) ⌝ }
     {
         Charge {
-            form: part[Charge::FORM],
+            trade_type: part[Charge::TRADE_TYPE],
             tier: part[Charge::TIER],
             amount: units::cents_u32_at(part, Charge::AMOUNT),
         }
@@ -338,7 +439,7 @@ impl Charge {
 // Kind 9, a trade.
 pub struct Trade {
     pub no: TradeNo,
-    pub form: u8,
+    pub trade_type: u8,
     pub status: u8,
     pub flags: u8,
     pub account: AccountNo,
@@ -357,7 +458,7 @@ impl Trade {
 
     pub const NO: usize = Grid::ID;
 
-    pub const FORM: usize = Grid::FORM;
+    pub const TRADE_TYPE: usize = Grid::FORM;
 
     pub const STATUS: usize = Grid::STATUS;
 
@@ -399,17 +500,19 @@ impl Trade {
         ..Limits::NONE
     };
 
+    pub const KEY: Marks = Marks::ID;
+
     pub fn from_bytes(part: &[u8]) -> Trade
         requires { ⌜ length (now part) ≡ 64 ⌝ }
         ensures { λ r. ⌜ r ≡ tradeOf (decode (now (part .entry))) ⌝ }
     {
         Trade {
             no: TradeNo(bytes::u64_at(part, Trade::NO)),
-            form: part[Trade::FORM],
+            trade_type: part[Trade::TRADE_TYPE],
             status: part[Trade::STATUS],
             flags: part[Trade::FLAGS],
             account: AccountNo(bytes::u32_at(part, Trade::ACCOUNT)),
-            symbol: Symbol(bytes::symbol_at(part, Trade::SYMBOL)),
+            symbol: Symbol::at(part, Trade::SYMBOL),
             shares: units::shares_u32_at(part, Trade::SHARES),
             bid: Price(bytes::u32_at(part, Trade::BID)),
             price: Price(bytes::u32_at(part, Trade::PRICE)),
@@ -419,12 +522,38 @@ impl Trade {
             time: Time(bytes::u32_at(part, Trade::TIME)),
         }
     }
+
+    pub fn row(self) -> Row
+        ensures { λ r. ⌜ r ≡ tradeRow self ⌝ }
+    {
+        let symbol = self.symbol;
+        let shares = self.shares;
+        let charge = self.charge;
+        let commission = self.commission;
+        let tax = self.tax;
+        let mut r = Blank::ROW;
+        r.kind = Trade::KIND;
+        r.form = self.trade_type;
+        r.status = self.status;
+        r.flags = self.flags;
+        r.party = self.account.0;
+        r.id = self.no.0;
+        r.symbol = symbol;
+        r.n1 = shares.low();
+        r.n2 = self.bid.0;
+        r.n3 = self.price.0;
+        r.n4 = charge.low();
+        r.m1 = commission.bits();
+        r.m2 = tax.bits();
+        r.time = self.time.0;
+        r
+    }
 }
 
 // Kind 10, a trade that waits for its price.
 pub struct Request {
     pub no: TradeNo,
-    pub form: u8,
+    pub trade_type: u8,
     pub broker: BrokerNo,
     pub symbol: Symbol,
     pub shares: Shares,
@@ -436,7 +565,7 @@ impl Request {
 
     pub const NO: usize = Grid::ID;
 
-    pub const FORM: usize = Grid::FORM;
+    pub const TRADE_TYPE: usize = Grid::FORM;
 
     pub const BROKER: usize = Grid::PARTY;
 
@@ -457,18 +586,36 @@ impl Request {
         ..Limits::NONE
     };
 
+    pub const KEY: Marks = Marks::ID;
+
     pub fn from_bytes(part: &[u8]) -> Request
         requires { ⌜ length (now part) ≡ 64 ⌝ }
         ensures { λ r. ⌜ r ≡ requestOf (decode (now (part .entry))) ⌝ }
     {
         Request {
             no: TradeNo(bytes::u64_at(part, Request::NO)),
-            form: part[Request::FORM],
+            trade_type: part[Request::TRADE_TYPE],
             broker: BrokerNo(bytes::u32_at(part, Request::BROKER)),
-            symbol: Symbol(bytes::symbol_at(part, Request::SYMBOL)),
+            symbol: Symbol::at(part, Request::SYMBOL),
             shares: units::shares_u32_at(part, Request::SHARES),
             bid: Price(bytes::u32_at(part, Request::BID)),
         }
+    }
+
+    pub fn row(self) -> Row
+        ensures { λ r. ⌜ r ≡ requestRow self ⌝ }
+    {
+        let symbol = self.symbol;
+        let shares = self.shares;
+        let mut r = Blank::ROW;
+        r.kind = Request::KIND;
+        r.form = self.trade_type;
+        r.party = self.broker.0;
+        r.id = self.no.0;
+        r.symbol = symbol;
+        r.n1 = shares.low();
+        r.n2 = self.bid.0;
+        r
     }
 }
 
@@ -496,6 +643,11 @@ impl TradeHistory {
         ..Limits::NONE
     };
 
+    pub const KEY: Marks = Marks {
+        status: true,
+        ..Marks::ID
+    };
+
     pub fn from_bytes(part: &[u8]) -> TradeHistory
         requires { ⌜ length (now part) ≡ 64 ⌝ }
         ensures { λ r. ⌜ r ≡ tradeHistoryOf (decode (now (part .entry))) ⌝ }
@@ -505,6 +657,17 @@ impl TradeHistory {
             status: part[TradeHistory::STATUS],
             time: Time(bytes::u32_at(part, TradeHistory::TIME)),
         }
+    }
+
+    pub fn row(self) -> Row
+        ensures { λ r. ⌜ r ≡ tradeHistoryRow self ⌝ }
+    {
+        let mut r = Blank::ROW;
+        r.kind = TradeHistory::KIND;
+        r.status = self.status;
+        r.id = self.no.0;
+        r.time = self.time.0;
+        r
     }
 }
 
@@ -544,6 +707,8 @@ impl Lot {
         ..Limits::NONE
     };
 
+    pub const KEY: Marks = Marks::ID;
+
     pub fn from_bytes(part: &[u8]) -> Lot
         requires { ⌜ length (now part) ≡ 64 ⌝ }
         ensures { λ r. ⌜ r ≡ lotOf (decode (now (part .entry))) ⌝ }
@@ -551,11 +716,27 @@ impl Lot {
         Lot {
             no: TradeNo(bytes::u64_at(part, Lot::NO)),
             account: AccountNo(bytes::u32_at(part, Lot::ACCOUNT)),
-            symbol: Symbol(bytes::symbol_at(part, Lot::SYMBOL)),
+            symbol: Symbol::at(part, Lot::SYMBOL),
             price: Price(bytes::u32_at(part, Lot::PRICE)),
             shares: units::shares_at(part, Lot::SHARES),
             time: Time(bytes::u32_at(part, Lot::TIME)),
         }
+    }
+
+    pub fn row(self) -> Row
+        ensures { λ r. ⌜ r ≡ lotRow self ⌝ }
+    {
+        let symbol = self.symbol;
+        let shares = self.shares;
+        let mut r = Blank::ROW;
+        r.kind = Lot::KIND;
+        r.party = self.account.0;
+        r.id = self.no.0;
+        r.symbol = symbol;
+        r.n1 = self.price.0;
+        r.m1 = shares.bits();
+        r.time = self.time.0;
+        r
     }
 }
 
@@ -583,15 +764,33 @@ impl Summary {
         ..Limits::NONE
     };
 
+    pub const KEY: Marks = Marks {
+        symbol: true,
+        ..Marks::PARTY
+    };
+
     pub fn from_bytes(part: &[u8]) -> Summary
         requires { ⌜ length (now part) ≡ 64 ⌝ }
         ensures { λ r. ⌜ r ≡ summaryOf (decode (now (part .entry))) ⌝ }
     {
         Summary {
             account: AccountNo(bytes::u32_at(part, Summary::ACCOUNT)),
-            symbol: Symbol(bytes::symbol_at(part, Summary::SYMBOL)),
+            symbol: Symbol::at(part, Summary::SYMBOL),
             shares: units::shares_at(part, Summary::SHARES),
         }
+    }
+
+    pub fn row(self) -> Row
+        ensures { λ r. ⌜ r ≡ summaryRow self ⌝ }
+    {
+        let symbol = self.symbol;
+        let shares = self.shares;
+        let mut r = Blank::ROW;
+        r.kind = Summary::KIND;
+        r.party = self.account.0;
+        r.symbol = symbol;
+        r.m1 = shares.bits();
+        r
     }
 }
 
@@ -623,6 +822,11 @@ impl LotHistory {
         ..Limits::NONE
     };
 
+    pub const KEY: Marks = Marks {
+        m2: true,
+        ..Marks::ID
+    };
+
     pub fn from_bytes(part: &[u8]) -> LotHistory
         requires { ⌜ length (now part) ≡ 64 ⌝ }
         ensures { λ r. ⌜ r ≡ lotHistoryOf (decode (now (part .entry))) ⌝ }
@@ -633,6 +837,20 @@ impl LotHistory {
             before: units::shares_i32_at(part, LotHistory::BEFORE),
             after: units::shares_i32_at(part, LotHistory::AFTER),
         }
+    }
+
+    pub fn row(self) -> Row
+        ensures { λ r. ⌜ r ≡ lotHistoryRow self ⌝ }
+    {
+        let before = self.before;
+        let after = self.after;
+        let mut r = Blank::ROW;
+        r.kind = LotHistory::KIND;
+        r.id = self.lot.0;
+        r.n1 = before.low();
+        r.n2 = after.low();
+        r.m2 = self.by.0;
+        r
     }
 }
 
@@ -660,9 +878,11 @@ impl Settlement {
         flags: R8(0, 1),
         id: Ranges::TRADE_NO,
         m1: Ranges::ANY64,
-        time: R32(0, 4_000_172_800),
+        time: R32(0, Ranges::TIME_MOST + Ranges::SETTLEMENT_SECONDS),
         ..Limits::NONE
     };
+
+    pub const KEY: Marks = Marks::ID;
 
     pub fn from_bytes(part: &[u8]) -> Settlement
         requires { ⌜ length (now part) ≡ 64 ⌝ }
@@ -674,6 +894,19 @@ impl Settlement {
             amount: units::cents_at(part, Settlement::AMOUNT),
             due: Time(bytes::u32_at(part, Settlement::DUE)),
         }
+    }
+
+    pub fn row(self) -> Row
+        ensures { λ r. ⌜ r ≡ settlementRow self ⌝ }
+    {
+        let amount = self.amount;
+        let mut r = Blank::ROW;
+        r.kind = Settlement::KIND;
+        r.flags = self.cash;
+        r.id = self.no.0;
+        r.m1 = amount.bits();
+        r.time = self.due.0;
+        r
     }
 }
 
@@ -701,6 +934,8 @@ impl Cash {
         ..Limits::NONE
     };
 
+    pub const KEY: Marks = Marks::ID;
+
     pub fn from_bytes(part: &[u8]) -> Cash
         requires { ⌜ length (now part) ≡ 64 ⌝ }
         ensures { λ r. ⌜ r ≡ cashOf (decode (now (part .entry))) ⌝ }
@@ -710,5 +945,17 @@ impl Cash {
             amount: units::cents_at(part, Cash::AMOUNT),
             time: Time(bytes::u32_at(part, Cash::TIME)),
         }
+    }
+
+    pub fn row(self) -> Row
+        ensures { λ r. ⌜ r ≡ cashRow self ⌝ }
+    {
+        let amount = self.amount;
+        let mut r = Blank::ROW;
+        r.kind = Cash::KIND;
+        r.id = self.no.0;
+        r.m1 = amount.bits();
+        r.time = self.time.0;
+        r
     }
 }

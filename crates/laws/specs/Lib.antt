@@ -13,3 +13,4 @@ pub mod Change
 pub mod Chunk
 pub mod Total
 pub mod Puts
+pub mod Marks

@@ -10,7 +10,7 @@ use lib.Dec.{leb, ltb, leb·suc-suc}
 use lib.ListN.{length, getD}
 use borrow.Author.Tests.{le-leb, lt-ltb}
 use Rattle.laws.specs.Search.{count, every, place, seek, the, total}
-use Rattle.laws.specs.Tests.{and-left, and-right}
+use Rattle.laws.specs.Tests.{and-both, and-left, and-right}
 
 module _ {A : Type 0} where
   pub seek-suc : (p : A → Bool) (i : ℕ) (l : List A) → seek p (suc i) l ≡ suc (seek p i l)
@@ -69,3 +69,10 @@ module _ {A : Type 0} where
   every-at p d [] i e h = absurd (omega arith)
   every-at p d (x ∷ l) zero e h = and-left (p x) (every p l) e
   every-at p d (x ∷ l) (suc i) e h = every-at p d l i (and-right (p x) (every p l) e) (omega arith)
+
+  pub every-place : (p : A → Bool) (d : A) (l : List A) → ((j : ℕ) → j < length l → p (getD l j d) ≡ true)
+      → every p l ≡ true
+  unfolding every
+  every-place p d [] h = refl
+  every-place p d (x ∷ l) h =
+      and-both (p x) (every p l) (h 0 (omega arith)) (every-place p d l (λ j k. h (suc j) (omega arith)))

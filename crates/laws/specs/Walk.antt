@@ -3,7 +3,7 @@
 use mathlib.Core.Path.{_≡_, refl, sym, ap, _∙_}
 use mathlib.Core.Bool.{Bool, true, false, false≢true}
 use mathlib.Core.List.{List, [], _∷_, map}
-use Prim.Native.Nat.{ℕ, zero, suc, _+_, _≤_, _<_}
+use Prim.Native.Nat.{ℕ, zero, suc, _+_, _-_, _≤_, _<_}
 use native.Mathlib.Numerals.{add-one}
 use native.Mathlib.Nat.{add-zero}
 use native.Mathlib.Omega.{arith}
@@ -110,6 +110,30 @@ module _ {A : Type 0} where
     pub from-passes : {M : Type 0} (F : List A → M) → ((x : A) (m : List A) → q x ≡ false → F (x ∷ m) ≡ F m)
         → F (drop i l) ≡ F (drop (from q l i) l)
     from-passes F none = passed F q l none (drop i l) i refl
+
+module _ {A : Type 0} (q : A → Bool) (d : A) (l : List A) where
+  not-past : (n s i : ℕ) → s + n ≡ i → i < length l → q (getD l i d) ≡ true → from q l s ≤ i
+  not-past zero s i e h t =
+      let z : s ≡ i = sym (add-zero s) ∙ e in
+      let y = seek-here q i l d h t in
+      rw z (omega arith)
+  not-past (suc n) s i e h t = go (not-past n (s + 1) i (omega arith) h t) (q (getD l s d)) refl
+    where
+      go : from q l (s + 1) ≤ i → (u : Bool) → q (getD l s d) ≡ u → from q l s ≤ i
+      go ih true k = let y = seek-here q s l d (omega arith) k in omega arith
+      go ih false k = let y = seek-later q s l d (omega arith) k in omega arith
+
+  -- a search from s on does not go past what it looks for
+  pub from-most : (s i : ℕ) → s ≤ i → i < length l → q (getD l i d) ≡ true → from q l s ≤ i
+  from-most s i a h t = not-past (i - s) s i (omega arith) h t
+
+  -- and so finds nothing where it goes by
+  pub from-clear : (s i : ℕ) → s ≤ i → i < from q l s → i < length l → q (getD l i d) ≡ false
+  from-clear s i a b h = go (q (getD l i d)) refl
+    where
+      go : (u : Bool) → q (getD l i d) ≡ u → q (getD l i d) ≡ false
+      go true k = let y = from-most s i a h k in absurd (omega arith)
+      go false k = k
 
 -- ---- what a walk sees of each element
 module _ {A B : Type 0} (g : A → B) where

@@ -5,7 +5,7 @@ use lib.IntN.{ℤ}
 use lib.ListN.{getD, set}
 use mir.Syntax.{w32, w64}
 use mir.Val.{ofZ}
-use Rattle.record.specs.Bytes.{be, bytesOf}
+use Rattle.record.specs.Symbol.{holding, numbered, symbolNumber}
 use Rattle.record.specs.declared.row.Row.{Row}
 use Rattle.rules.specs.Ranges.{values}
 use Rattle.model.specs.Rows.{nothing}
@@ -26,7 +26,7 @@ rowOf l = record {
   flags = getD l 3 0;
   party = getD l 4 0;
   id = getD l 5 0;
-  symbol = getD l 6 0;
+  symbol = numbered (getD l 6 0);
   n1 = getD l 7 0;
   n2 = getD l 8 0;
   n3 = getD l 9 0;
@@ -54,6 +54,6 @@ bits64 z = ofZ w64 z
 abbrev pub bits32 : ℤ → ℕ
 bits32 z = ofZ w32 z
 
--- a number that an answer has in the bytes of the symbol, little-endian as every number is
+-- a number that an answer has in the bytes of the symbol
 abbrev pub inSymbol : ℕ → ℕ
-inSymbol x = be 8 (bytesOf 8 x) 0
+inSymbol x = symbolNumber (holding x)

@@ -8,14 +8,17 @@ use Rattle.laws.specs.Sort.{insert, sort}
 use Rattle.laws.specs.Change.{fill, put, puts, written}
 use Rattle.laws.specs.Chunk.{chunk, joined}
 use Rattle.record.specs.Grid.{decode, encode}
-use Rattle.record.specs.Key.{keyOf, sameKey}
+use Rattle.rules.specs.Key.{keyOf, sameKey}
+use Rattle.record.specs.Spelling.{symbolOk}
+use Rattle.record.specs.Symbol.{sameSymbol}
 use Rattle.record.specs.declared.row.Row.{Row}
 use Rattle.rules.specs.Ranges
 use Rattle.rules.specs.Signed.{near}
-use Rattle.rules.specs.Symbol.{symbolOk}
-use Rattle.rules.specs.Rules.{account, band, broker, cash, charge, customer, customerRate, feedInput, fits, free}
-use Rattle.rules.specs.Rules.{lookupInput, lot, lotHistory, orderInput, request, resultInput, security, settlement}
-use Rattle.rules.specs.Rules.{summary, taxRate, trade, tradeHistory}
+use Rattle.rules.specs.Rules.{fits, obeys, freeShape, brokerShape, customerShape, taxRateShape}
+use Rattle.rules.specs.Rules.{customerRateShape, accountShape, securityShape, bandShape, chargeShape}
+use Rattle.rules.specs.Rules.{tradeShape, requestShape, tradeHistoryShape, lotShape, summaryShape}
+use Rattle.rules.specs.Rules.{lotHistoryShape, settlementShape, cashShape, orderInputShape, resultInputShape}
+use Rattle.rules.specs.Rules.{feedInputShape, lookupInputShape}
 use Rattle.model.specs.Band.{bandRate}
 use Rattle.model.specs.Call as call
 use Rattle.model.specs.Call.{Reply, feedCall, lookupCall, orderCall, refusalArea, replied, resultCall, shell}
@@ -39,7 +42,7 @@ unfolding the every keep total count sumZ largest run insert sort put puts fill 
 listsOpened = 0
 
 unfoldable gridOpened : ℕ
-unfolding decode encode keyOf sameKey rows bytes wholeRecords sameRow hasKey found there named
+unfolding decode encode keyOf sameKey sameSymbol rows bytes wholeRecords sameRow hasKey found there named
 gridOpened = 0
 
 unfoldable fieldsOpened : ℕ
@@ -47,15 +50,23 @@ unfolding Ranges.limited near symbolOk
 fieldsOpened = 0
 
 unfoldable kindsOpened : ℕ
-unfolding free broker customer taxRate customerRate account security band charge trade request tradeHistory fits
+unfolding fits obeys freeShape brokerShape customerShape taxRateShape customerRateShape accountShape securityShape
 kindsOpened = 0
 
 unfoldable moreKindsOpened : ℕ
-unfolding lot summary lotHistory settlement cash orderInput resultInput feedInput lookupInput
+unfolding bandShape chargeShape tradeShape requestShape tradeHistoryShape lotShape summaryShape lotHistoryShape
 moreKindsOpened = 0
 
+unfoldable lastKindsOpened : ℕ
+unfolding settlementShape cashShape orderInputShape resultInputShape feedInputShape lookupInputShape
+lastKindsOpened = 0
+
+unfoldable soundnessOpened : ℕ
+unfolding ratesOf s1 s2 s3 s4 s5 s6 s7 s8 s9 s10 sound
+soundnessOpened = 0
+
 unfoldable rulesOpened : ℕ
-unfolding listsOpened gridOpened fieldsOpened kindsOpened moreKindsOpened ratesOf s1 s2 s3 s4 s5 s6 s7 s8 s9 s10 sound
+unfolding listsOpened gridOpened fieldsOpened kindsOpened moreKindsOpened lastKindsOpened soundnessOpened
 rulesOpened = 0
 
 unfoldable shellOpened : ℕ

@@ -12,6 +12,7 @@ use Rattle.laws.specs.Search.{every, keep, run}
 use Rattle.laws.specs.Change.{put}
 use Rattle.laws.specs.Sort.{sort}
 use Rattle.record.specs.Codes.{kindFeed, kindRequest, pending, submitted, tlb, tls, tsl}
+use Rattle.record.specs.Symbol.{sameSymbol}
 use Rattle.record.specs.declared.row.Row.{Row}
 use Rattle.rules.specs.Ranges.{kind, m1, n1, n2, status, volume, when}
 use Rattle.model.specs.declared.Status.the-variants.{FeedNoSecurity}
@@ -30,7 +31,7 @@ abbrev pub waits : List Row → Row → Bool
 waits rs r = is kindRequest r && eqb (found (aTrade (r .id)) rs .status) pending
 
 abbrev pub triggered : List Row → Row → Row → Bool
-triggered rs e r = waits rs r && eqb (r .symbol) (e .symbol) && reached e r
+triggered rs e r = waits rs r && sameSymbol (r .symbol) (e .symbol) && reached e r
 
 abbrev pub lower : Row → Row → Bool
 lower a b = leb (a .id) (b .id)

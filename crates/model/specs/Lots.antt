@@ -16,6 +16,7 @@ use Rattle.laws.specs.Tests.{_⇔_}
 use Rattle.laws.specs.Search.{keep, run, total}
 use Rattle.laws.specs.Sort.{sort}
 use Rattle.record.specs.declared.row.Row.{Row}
+use Rattle.record.specs.declared.symbol.Symbol.{Symbol}
 use Rattle.model.specs.Flags.{lifo}
 use Rattle.model.specs.Money.{buys}
 use Rattle.model.specs.Sound.{lotOf, short}
@@ -28,10 +29,10 @@ abbrev pub before : Bool → Row → Row → Bool
 before last a b = cond last (earlier b a) (earlier a b)
 
 -- the lots that a trade of this type closes: of its account and symbol, and of the other sign
-abbrev pub closes : ℕ → ℕ → ℕ → Row → Bool
+abbrev pub closes : ℕ → ℕ → Symbol → Row → Bool
 closes form account symbol r = lotOf account symbol r && (buys form ⇔ short r)
 
-unfoldable pub lotsFor : List Row → ℕ → ℕ → ℕ → ℕ → List Row
+unfoldable pub lotsFor : List Row → ℕ → ℕ → ℕ → Symbol → List Row
 lotsFor rs form flags account symbol = sort (before (lifo flags)) (keep (closes form account symbol) rs)
 
 abbrev pub size : Row → ℕ

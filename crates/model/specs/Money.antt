@@ -7,20 +7,20 @@ use native.Mathlib.Omega.{arith}
 use lib.Dec.{eqb, leb, ltb}
 use lib.IntN.{ℤ, pos, negℤ, _-ℤ_, +ℤ-idr}
 use Rattle.record.specs.Codes.{tlb, tmb}
-use Rattle.rules.specs.Ranges.{commissionPart, taxPart}
+use Rattle.rules.specs.Ranges.{commissionWhole, taxWhole}
 
 -- a / b to the nearest whole number, halves up
 abbrev pub rounded : ℕ → ℕ → ℕ
 rounded a b = (2 * a + b) / (2 * b)
 
 -- "each lies within half a cent of the exact fraction": twice the error is at most the divisor, either way
-pub tax-near : (a : ℕ) → (2 * (rounded a (taxPart .high) * taxPart .high) ≤ 2 * a + taxPart .high)
-    × (2 * a ≤ 2 * (rounded a (taxPart .high) * taxPart .high) + taxPart .high)
+pub tax-near : (a : ℕ) → (2 * (rounded a (taxWhole) * taxWhole) ≤ 2 * a + taxWhole)
+    × (2 * a ≤ 2 * (rounded a (taxWhole) * taxWhole) + taxWhole)
 tax-near a = omega arith
 
 pub commission-near : (a : ℕ)
-    → (2 * (rounded a (commissionPart .high) * commissionPart .high) ≤ 2 * a + commissionPart .high)
-    × (2 * a ≤ 2 * (rounded a (commissionPart .high) * commissionPart .high) + commissionPart .high)
+    → (2 * (rounded a (commissionWhole) * commissionWhole) ≤ 2 * a + commissionWhole)
+    × (2 * a ≤ 2 * (rounded a (commissionWhole) * commissionWhole) + commissionWhole)
 commission-near a = omega arith
 
 -- "1 and 3 buy"
@@ -34,7 +34,7 @@ taxable status bought sold = leb 1 status && ltb bought sold
 -- "(sold - bought) × sum of rates / 100,000"
 unfoldable pub taxOf : ℕ → ℕ → ℕ → ℕ → ℕ
 taxOf status rates bought sold =
-    cond (taxable status bought sold) (rounded ((sold - bought) * rates) (taxPart .high)) 0
+    cond (taxable status bought sold) (rounded ((sold - bought) * rates) (taxWhole)) 0
 
 -- "gain and tax status 1 or 2, yet tax is 0"
 unfoldable pub untaxed : ℕ → ℕ → ℕ → ℕ → Bool
@@ -42,7 +42,7 @@ untaxed status rates bought sold = taxable status bought sold && eqb (taxOf stat
 
 -- "rate × shares × price / 10,000"
 unfoldable pub commissionOf : ℕ → ℕ → ℕ → ℕ
-commissionOf rate shares price = rounded (rate * shares * price) (commissionPart .high)
+commissionOf rate shares price = rounded (rate * shares * price) (commissionWhole)
 
 -- "a sell, value - charge - commission; a buy, -(value + charge + commission); less tax for tax status 1 only"
 unfoldable pub settlementOf : ℕ → ℕ → ℕ → ℕ → ℕ → ℕ → ℤ

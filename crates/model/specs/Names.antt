@@ -1,13 +1,21 @@
--- The key of each kind of row that another names, and what a row names. Assumes nothing.
-use mathlib.Core.List.{List, [], _∷_}
+-- The key of each kind of row that another names, and what a row names, read off the table of the kinds. Assumes
+-- nothing.
+use mathlib.Core.Bool.{cond}
+use mathlib.Core.List.{List, [], _∷_, map}
 use Prim.Native.Nat.{ℕ}
 use lib.ListN.{getD}
 use Rattle.record.specs.Codes.{kindAccount, kindBroker, kindCash, kindCharge, kindCustomer, kindLot, kindRequest}
 use Rattle.record.specs.Codes.{kindSecurity, kindSettlement, kindSummary, kindTaxRate, kindTrade, kindTradeHistory}
+use Rattle.record.specs.Symbol.{noSymbol}
 use Rattle.record.specs.declared.row.Row.{Row}
-use Rattle.record.specs.declared.key.Key.{Key}
+use Rattle.rules.specs.Key as Table
+use Rattle.rules.specs.Key.{among}
+use Rattle.rules.specs.Ranges.{values}
+use Rattle.rules.specs.Rules.{Kind, Name, kinds}
+use Rattle.rules.specs.declared.key.Key.{Key}
+use Rattle.record.specs.declared.symbol.Symbol.{Symbol}
 
-abbrev pub key : ℕ → ℕ → ℕ → ℕ → ℕ → ℕ → Key
+abbrev pub key : ℕ → ℕ → ℕ → ℕ → ℕ → Symbol → Key
 key k f s p i y = record {
   kind = k;
   form = f;
@@ -21,10 +29,13 @@ key k f s p i y = record {
 }
 
 abbrev pub byParty : ℕ → ℕ → Key
-byParty k p = key k 0 0 p 0 0
+byParty k p = key k 0 0 p 0 noSymbol
 
 abbrev pub byId : ℕ → ℕ → Key
-byId k i = key k 0 0 0 i 0
+byId k i = key k 0 0 0 i noSymbol
+
+abbrev bySymbol : ℕ → Symbol → Key
+bySymbol k s = key k 0 0 0 0 s
 
 abbrev pub aBroker : ℕ → Key
 aBroker n = byParty kindBroker n
@@ -38,11 +49,11 @@ aTaxRate n = byParty kindTaxRate n
 abbrev pub anAccount : ℕ → Key
 anAccount n = byParty kindAccount n
 
-abbrev pub aSecurity : ℕ → Key
-aSecurity s = key kindSecurity 0 0 0 0 s
+abbrev pub aSecurity : Symbol → Key
+aSecurity s = bySymbol kindSecurity s
 
 abbrev pub aCharge : ℕ → ℕ → Key
-aCharge form tier = key kindCharge form tier 0 0 0
+aCharge form tier = key kindCharge form tier 0 0 noSymbol
 
 abbrev pub aTrade : ℕ → Key
 aTrade i = byId kindTrade i
@@ -51,12 +62,12 @@ abbrev pub aRequest : ℕ → Key
 aRequest i = byId kindRequest i
 
 abbrev pub aHistory : ℕ → ℕ → Key
-aHistory i status = key kindTradeHistory 0 status 0 i 0
+aHistory i status = key kindTradeHistory 0 status 0 i noSymbol
 
 abbrev pub aLot : ℕ → Key
 aLot i = byId kindLot i
 
-abbrev pub aSummary : ℕ → ℕ → Key
+abbrev pub aSummary : ℕ → Symbol → Key
 aSummary account symbol = key kindSummary 0 0 account 0 symbol
 
 abbrev pub aSettlement : ℕ → Key
@@ -65,27 +76,20 @@ aSettlement i = byId kindSettlement i
 abbrev pub aCash : ℕ → Key
 aCash i = byId kindCash i
 
+-- the key of a row that is named, by the field that its kind's key has: the table says which
+abbrev keyNamed : Row → Name → Key
+keyNamed r n =
+    let x = getD (values r) (n .field) 0 in
+    cond (among (n .kind) Table.byParty) (byParty (n .kind) x)
+    (cond (among (n .kind) Table.byId) (byId (n .kind) x) (bySymbol (n .kind) (r .symbol)))
+
+abbrev namedBy : Row → List Name → List Key
+namedBy r [] = []
+namedBy r (n ∷ ns) = keyNamed r n ∷ namedBy r ns
+
 -- what a row of each kind names, by the kind's number
 abbrev pub names : List (Row → List Key)
-names =
-    (λ r. [])
-    ∷ (λ r. [])
-    ∷ (λ r. [])
-    ∷ (λ r. [])
-    ∷ (λ r. aCustomer (r .party) ∷ aTaxRate (r .n1) ∷ [])
-    ∷ (λ r. aBroker (r .n1) ∷ aCustomer (r .n2) ∷ [])
-    ∷ (λ r. [])
-    ∷ (λ r. [])
-    ∷ (λ r. [])
-    ∷ (λ r. anAccount (r .party) ∷ aSecurity (r .symbol) ∷ [])
-    ∷ (λ r. aTrade (r .id) ∷ aBroker (r .party) ∷ aSecurity (r .symbol) ∷ [])
-    ∷ (λ r. aTrade (r .id) ∷ [])
-    ∷ (λ r. aTrade (r .id) ∷ anAccount (r .party) ∷ aSecurity (r .symbol) ∷ [])
-    ∷ (λ r. anAccount (r .party) ∷ aSecurity (r .symbol) ∷ [])
-    ∷ (λ r. aTrade (r .id) ∷ aTrade (r .m2) ∷ [])
-    ∷ (λ r. aTrade (r .id) ∷ [])
-    ∷ (λ r. aTrade (r .id) ∷ [])
-    ∷ []
+names = map (λ (k : Kind) (r : Row). namedBy r (k .names)) kinds
 
 unfoldable pub named : Row → List Key
 named r = getD names (r .kind) (λ (s : Row). []) r

@@ -7,6 +7,7 @@ use lib.Dec.{leb}
 use lib.ListN.{length}
 use Rattle.laws.specs.Search.{largest}
 use Rattle.record.specs.Codes.{kindFree, kindOrder, kindRequest, kindTrade, pending, submitted, tms}
+use Rattle.record.specs.Symbol.{symbolNumber}
 use Rattle.record.specs.declared.row.Row.{Row}
 use Rattle.rules.specs.Ranges.{flags, form, id, kind, m1, m2, n1, n2, n3, n4, party, status, symbol, tradeNumber}
 use Rattle.rules.specs.Ranges.{when}
@@ -76,14 +77,14 @@ abbrev pub tradeRow : Row → ℕ → ℕ → ℕ → ℕ → Row
 tradeRow input number price charge commission =
     new (
     kind ≔ kindTrade ∷ form ≔ input .form ∷ status ≔ firstStatus input ∷ flags ≔ (input .flags % 4)
-    ∷ party ≔ input .party ∷ id ≔ number ∷ symbol ≔ input .symbol ∷ n1 ≔ input .n1 ∷ n2 ≔ price ∷ n4 ≔ charge
-    ∷ m1 ≔ commission ∷ when ≔ input .time ∷ [])
+    ∷ party ≔ input .party ∷ id ≔ number ∷ symbol ≔ symbolNumber (input .symbol) ∷ n1 ≔ input .n1 ∷ n2 ≔ price
+    ∷ n4 ≔ charge ∷ m1 ≔ commission ∷ when ≔ input .time ∷ [])
 
 abbrev pub requestRow : Row → ℕ → ℕ → ℕ → Row
 requestRow input broker number price =
     new (
-    kind ≔ kindRequest ∷ form ≔ input .form ∷ party ≔ broker ∷ id ≔ number ∷ symbol ≔ input .symbol ∷ n1 ≔ input .n1
-    ∷ n2 ≔ price ∷ [])
+    kind ≔ kindRequest ∷ form ≔ input .form ∷ party ≔ broker ∷ id ≔ number ∷ symbol ≔ symbolNumber (input .symbol)
+    ∷ n1 ≔ input .n1 ∷ n2 ≔ price ∷ [])
 
 -- a trade and its history; a request, where the order is not one at the market's price
 abbrev pub addedRows : Row → ℕ → ℕ → ℕ → ℕ → ℕ → List Row

@@ -8,7 +8,9 @@ use lib.ListN.{drop, replicate}
 use Rattle.laws.specs.Search.{keep}
 use Rattle.record.specs.Codes.{kindBand, kindCharge}
 use Rattle.record.specs.Grid.{encode}
+use Rattle.record.specs.Symbol.{spelling, symbolNumber}
 use Rattle.record.specs.declared.row.Row.{Row}
+use Rattle.record.specs.declared.symbol.Symbol.{Symbol}
 use Rattle.rules.specs.Ranges.{id, symbol}
 use Rattle.model.specs.Call.{feedCall, lookupCall, orderCall, resultCall}
 use Rattle.model.specs.Edit.{_≔_, changed}
@@ -56,8 +58,8 @@ abbrev twice : List Row → List Row
 twice [] = []
 twice (r ∷ rs) = r ∷ r ∷ rs
 
-abbrev unknown : ℕ
-unknown = 0x5a00_0000_0000_0000
+abbrev unknown : Symbol
+unknown = spelling (0x5a ∷ [])
 
 abbrev bare : List Row → List Row
 bare rs = without kindCharge (without kindBand rs)
@@ -85,7 +87,7 @@ table =
     ∷ (result (atLimits (selling 1 120 0)) (resultAt 3_000) gives 104)
     ∷ (result (selling 1 120 0) (resultAt 3_000) gives 105)
     -- feed: security, volume, room
-    ∷ (feed (atLimits day) (entryAt 500 ∷ changed (entryAt 500) (symbol ≔ unknown ∷ []) ∷ []) gives 311)
+    ∷ (feed (atLimits day) (entryAt 500 ∷ changed (entryAt 500) (symbol ≔ symbolNumber unknown ∷ []) ∷ []) gives 311)
     ∷ (feed (atLimits (lastNumber ++ without 0 day)) (entryAt 400 ∷ []) gives 104)
     ∷ (feed (lastNumber ++ without 0 day) (entryAt 400 ∷ []) gives 105)
     -- lookup

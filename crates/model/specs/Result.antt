@@ -10,9 +10,11 @@ use lib.ListN.{length}
 use Rattle.laws.specs.Search.{keep}
 use Rattle.record.specs.Codes.{completed, kindCash, kindFree, kindLot, kindLotHistory, kindResult, kindSettlement}
 use Rattle.record.specs.Codes.{kindSummary, submitted}
+use Rattle.record.specs.Symbol.{symbolNumber}
 use Rattle.record.specs.declared.row.Row.{Row}
 use Rattle.rules.specs.Ranges.{brokerTrades, commissionTotal, flags, id, kind, m1, m2, moneyMost, n1, n2, n3, party}
 use Rattle.rules.specs.Ranges.{status, symbol, when}
+pub use Rattle.rules.specs.Ranges.{settlementSeconds}
 use Rattle.model.specs.declared.Status.the-variants.{ResultNoRate, ResultNoTax, ResultNoTrade}
 use Rattle.model.specs.declared.Status.the-variants.{ResultNotSubmitted}
 use Rattle.model.specs.Edit.{_≔_, bits32, bits64, changed, inSymbol, new}
@@ -25,10 +27,6 @@ use Rattle.model.specs.Names.{aBroker, aCustomer, aSecurity, aSummary, a
 use Rattle.model.specs.Plan.{Check, Outcome, Posting, accepted, check, decided, lastChecks, posted}
 use Rattle.model.specs.Rows.{found, is}
 use Rattle.model.specs.Sound.{ratesOf}
-
--- "Due time is time + 172,800."
-abbrev pub settlementSeconds : ℕ
-settlementSeconds = 172_800
 
 -- all that a result reads, but for the broker and the room
 pub record View : Type 0 where
@@ -113,7 +111,7 @@ closingRows t cs =
 abbrev pub newLot : Row → ℕ → ℤ → ℕ → Row
 newLot t price count time =
     new (
-    kind ≔ kindLot ∷ party ≔ t .party ∷ id ≔ t .id ∷ symbol ≔ t .symbol ∷ n1 ≔ price ∷ m1 ≔ bits64 count
+    kind ≔ kindLot ∷ party ≔ t .party ∷ id ≔ t .id ∷ symbol ≔ symbolNumber (t .symbol) ∷ n1 ≔ price ∷ m1 ≔ bits64 count
     ∷ when ≔ time ∷ [])
 
 abbrev pub openingRows : Row → ℕ → ℕ → ℕ → List Row
@@ -140,7 +138,7 @@ summaryGone t summary = cond (not (is kindFree summary) && gone (summedShares t 
 
 abbrev pub newSummary : Row → ℤ → Row
 newSummary t count =
-    new (kind ≔ kindSummary ∷ party ≔ t .party ∷ symbol ≔ t .symbol ∷ m1 ≔ bits64 count ∷ [])
+    new (kind ≔ kindSummary ∷ party ≔ t .party ∷ symbol ≔ symbolNumber (t .symbol) ∷ m1 ≔ bits64 count ∷ [])
 
 abbrev pub summaryRows : Row → Row → List Row
 summaryRows t summary = cond (not (is kindFree summary)) [] (newSummary t (summedShares t summary) ∷ [])

@@ -2,24 +2,22 @@
 -- read as its rows, place by place, free ones too. Assumes nothing.
 use mathlib.Core.Bool.{Bool, _&&_}
 use mathlib.Core.List.{List, map}
-use Prim.Native.Nat.{ℕ, _*_, _/_, _%_}
+use Prim.Native.Nat.{ℕ, _*_, _%_}
 use lib.Dec.{eqb, leb}
-use lib.ListN.{length}
 use Rattle.laws.specs.Chunk.{chunk, joined}
 use Rattle.laws.specs.Search.{the, count}
 use Rattle.record.specs.Grid.{decode, encode}
-use Rattle.record.specs.Key.{keyOf, sameKey}
+pub use Rattle.record.specs.Grid.{places, recordSize}
+use Rattle.rules.specs.Key.{keyOf, sameKey}
+use Rattle.record.specs.Symbol.{noSymbol, sameSymbol}
 use Rattle.record.specs.declared.row.Row.{Row}
-use Rattle.record.specs.declared.key.Key.{Key}
-
-abbrev pub recordSize : ℕ
-recordSize = 64
+use Rattle.rules.specs.declared.key.Key.{Key}
 
 abbrev pub mostRecords : ℕ
 mostRecords = 4_096
 
 unfoldable pub rows : List ℕ → List Row
-rows b = map decode (chunk recordSize (length b / recordSize) b)
+rows b = map decode (chunk recordSize (places b) b)
 
 unfoldable pub bytes : List Row → List ℕ
 bytes rs = joined (map encode rs)
@@ -37,7 +35,7 @@ nothing = record {
   flags = 0;
   party = 0;
   id = 0;
-  symbol = 0;
+  symbol = noSymbol;
   n1 = 0;
   n2 = 0;
   n3 = 0;
@@ -51,7 +49,7 @@ nothing = record {
 unfoldable pub sameRow : Row → Row → Bool
 sameRow a b =
     eqb (a .kind) (b .kind) && eqb (a .form) (b .form) && eqb (a .status) (b .status) && eqb (a .flags) (b .flags)
-    && eqb (a .party) (b .party) && eqb (a .id) (b .id) && eqb (a .symbol) (b .symbol) && eqb (a .n1) (b .n1)
+    && eqb (a .party) (b .party) && eqb (a .id) (b .id) && sameSymbol (a .symbol) (b .symbol) && eqb (a .n1) (b .n1)
     && eqb (a .n2) (b .n2) && eqb (a .n3) (b .n3) && eqb (a .n4) (b .n4) && eqb (a .m1) (b .m1) && eqb (a .m2) (b .m2)
     && eqb (a .time) (b .time) && eqb (a .n5) (b .n5)
 

@@ -3,7 +3,7 @@
 use mathlib.Core.Path.{_≡_, sym, ap₂, _∙_}
 use mathlib.Core.Bool.{true, _&&_}
 use mathlib.Core.List.{List, [], _∷_, _++_, map}
-use Prim.Native.Nat.{ℕ, zero, suc, _+_, _*_, _/_, _%_}
+use Prim.Native.Nat.{ℕ, zero, suc, _+_, _*_, _%_}
 use native.Mathlib.Nat.{zero-mul, suc-mul}
 use native.Mathlib.Omega.{arith}
 use lib.Dec.{eqb, leb, lit<}
@@ -15,7 +15,7 @@ use Rattle.laws.specs.Lists.{listed-is}
 use Rattle.laws.specs.Tests.{and-left, and-right}
 use Rattle.record.specs.Bytes.{Bytes}
 use Rattle.record.specs.Grid.{decode, encode, encode-decode}
-use Rattle.model.specs.Rows.{bytes, rows, wholeRecords}
+use Rattle.model.specs.Rows.{bytes, places, rows, wholeRecords}
 
 bytes-take : (n : ℕ) (b : List ℕ) → Bytes b → Bytes (take n b)
 bytes-take zero b h i = lit< tt
@@ -39,4 +39,4 @@ bytes-rows most b e h =
     let n = length b in
     let whole = and-left (leb 64 n && eqb (n % 64) 0) (leb n (most * 64)) e in
     let even = eqb-true (n % 64) 0 (and-right (leb 64 n) (eqb (n % 64) 0) whole) in
-    parts-back (n / 64) b (omega arith) h
+    parts-back (places b) b (omega arith) h

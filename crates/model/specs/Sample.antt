@@ -10,7 +10,9 @@ use Rattle.record.specs.Codes.{completed, kindAccount, kindBand, kindBroker, ki
 use Rattle.record.specs.Codes.{kindCustomerRate, kindFeed, kindLookup, kindLot, kindOrder, kindRequest, kindResult}
 use Rattle.record.specs.Codes.{kindSecurity, kindSettlement, kindSummary, kindTaxRate, kindTrade, pending, submitted}
 use Rattle.record.specs.Codes.{tlb, tmb, tms}
+use Rattle.record.specs.Symbol.{sameSymbol, spelling, symbolNumber}
 use Rattle.record.specs.declared.row.Row.{Row}
+use Rattle.record.specs.declared.symbol.Symbol.{Symbol}
 use Rattle.rules.specs.Ranges.{brokerTrades, flags, form, id, kind, m1, n1, n2, n3, n4, party, status, symbol}
 use Rattle.rules.specs.Ranges.{tradeNumber, volume, when}
 use Rattle.model.specs.Edit.{_≔_, bits64, changed, new}
@@ -20,14 +22,14 @@ use Rattle.model.specs.Rows.{nothing}
 use Rattle.model.specs.History.{historyRow}
 
 -- "ABC", "ABCDEFG" and the eight letters "ABCDEFGH", each as its bytes
-abbrev pub abc : ℕ
-abc = 0x4142_4300_0000_0000
+abbrev pub abc : Symbol
+abc = spelling (0x41 ∷ 0x42 ∷ 0x43 ∷ [])
 
-abbrev pub seven : ℕ
-seven = 0x4142_4344_4546_4700
+abbrev pub seven : Symbol
+seven = spelling (0x41 ∷ 0x42 ∷ 0x43 ∷ 0x44 ∷ 0x45 ∷ 0x46 ∷ 0x47 ∷ [])
 
-abbrev pub eight : ℕ
-eight = 0x4142_4344_4546_4748
+abbrev pub eight : Symbol
+eight = spelling (0x41 ∷ 0x42 ∷ 0x43 ∷ 0x44 ∷ 0x45 ∷ 0x46 ∷ 0x47 ∷ 0x48 ∷ [])
 
 -- what does not change: account 1 with balance 1,000,000, tax status 1 and rates 20,000; bands 1..1,000 at rate 50
 abbrev standing : List Row
@@ -37,8 +39,8 @@ standing =
     ∷ new (kind ≔ kindTaxRate ∷ party ≔ 1 ∷ n1 ≔ 20_000 ∷ [])
     ∷ new (kind ≔ kindCustomerRate ∷ party ≔ 1 ∷ n1 ≔ 1 ∷ [])
     ∷ new (kind ≔ kindAccount ∷ form ≔ 1 ∷ party ≔ 1 ∷ n1 ≔ 1 ∷ n2 ≔ 1 ∷ m1 ≔ 1_000_000 ∷ [])
-    ∷ new (kind ≔ kindSecurity ∷ form ≔ 1 ∷ symbol ≔ abc ∷ n1 ≔ 3_000 ∷ [])
-    ∷ new (kind ≔ kindSecurity ∷ form ≔ 1 ∷ symbol ≔ seven ∷ n1 ≔ 100 ∷ [])
+    ∷ new (kind ≔ kindSecurity ∷ form ≔ 1 ∷ symbol ≔ symbolNumber abc ∷ n1 ≔ 3_000 ∷ [])
+    ∷ new (kind ≔ kindSecurity ∷ form ≔ 1 ∷ symbol ≔ symbolNumber seven ∷ n1 ≔ 100 ∷ [])
     ∷ new (kind ≔ kindBand ∷ form ≔ tmb ∷ status ≔ 1 ∷ flags ≔ 1 ∷ n1 ≔ 1 ∷ n2 ≔ 1_000 ∷ n3 ≔ 50 ∷ [])
     ∷ new (kind ≔ kindBand ∷ form ≔ tms ∷ status ≔ 1 ∷ flags ≔ 1 ∷ n1 ≔ 1 ∷ n2 ≔ 1_000 ∷ n3 ≔ 50 ∷ [])
     ∷ new (kind ≔ kindCharge ∷ form ≔ tmb ∷ status ≔ 1 ∷ n1 ≔ 500 ∷ [])
@@ -49,7 +51,8 @@ standing =
 abbrev done : ℕ → ℕ → ℕ → ℤ → ℕ → ℕ → List Row
 done number type shares left price time =
     new (
-    kind ≔ kindTrade ∷ form ≔ type ∷ status ≔ completed ∷ party ≔ 1 ∷ id ≔ number ∷ symbol ≔ abc ∷ n1 ≔ shares
+    kind ≔ kindTrade ∷ form ≔ type ∷ status ≔ completed ∷ party ≔ 1 ∷ id ≔ number ∷ symbol ≔ symbolNumber abc
+    ∷ n1 ≔ shares
     ∷ n2 ≔ price
     ∷ n3 ≔ price ∷ when ≔ time ∷ [])
     ∷ historyRow completed number time
@@ -57,17 +60,18 @@ done number type shares left price time =
     ∷ m1 ≔ bits64 (cond (buys type) (negℤ (pos (shares * price))) (pos (shares * price)))
     ∷ when ≔ (time + settlementSeconds) ∷ [])
     ∷ new (
-    kind ≔ kindLot ∷ party ≔ 1 ∷ id ≔ number ∷ symbol ≔ abc ∷ n1 ≔ price ∷ m1 ≔ bits64 left ∷ when ≔ time ∷ [])
+    kind ≔ kindLot ∷ party ≔ 1 ∷ id ≔ number ∷ symbol ≔ symbolNumber abc ∷ n1 ≔ price
+    ∷ m1 ≔ bits64 left ∷ when ≔ time ∷ [])
     ∷ []
 
 abbrev summary : ℤ → Row
-summary shares = new (kind ≔ kindSummary ∷ party ≔ 1 ∷ symbol ≔ abc ∷ m1 ≔ bits64 shares ∷ [])
+summary shares = new (kind ≔ kindSummary ∷ party ≔ 1 ∷ symbol ≔ symbolNumber abc ∷ m1 ≔ bits64 shares ∷ [])
 
 -- trade 12, submitted, with charge 500
 abbrev awaiting : ℕ → ℕ → ℕ → List Row
 awaiting type flag shares =
     new (
-    kind ≔ kindTrade ∷ form ≔ type ∷ status ≔ submitted ∷ flags ≔ flag ∷ party ≔ 1 ∷ id ≔ 12 ∷ symbol ≔ abc
+    kind ≔ kindTrade ∷ form ≔ type ∷ status ≔ submitted ∷ flags ≔ flag ∷ party ≔ 1 ∷ id ≔ 12 ∷ symbol ≔ symbolNumber abc
     ∷ n1 ≔ shares
     ∷ n2 ≔ 3_000 ∷ n4 ≔ 500 ∷ when ≔ 300 ∷ [])
     ∷ historyRow submitted 12 300
@@ -94,11 +98,12 @@ gaining price =
 abbrev requested : List Row
 requested =
     new (
-    kind ≔ kindTrade ∷ form ≔ tlb ∷ status ≔ pending ∷ party ≔ 1 ∷ id ≔ 20 ∷ symbol ≔ abc ∷ n1 ≔ 5 ∷ n2 ≔ 500
+    kind ≔ kindTrade ∷ form ≔ tlb ∷ status ≔ pending ∷ party ≔ 1 ∷ id ≔ 20 ∷ symbol ≔ symbolNumber abc
+    ∷ n1 ≔ 5 ∷ n2 ≔ 500
     ∷ when ≔ 50
     ∷ [])
     ∷ historyRow pending 20 50
-    ∷ new (kind ≔ kindRequest ∷ form ≔ tlb ∷ party ≔ 1 ∷ id ≔ 20 ∷ symbol ≔ abc ∷ n1 ≔ 5 ∷ n2 ≔ 500 ∷ [])
+    ∷ new (kind ≔ kindRequest ∷ form ≔ tlb ∷ party ≔ 1 ∷ id ≔ 20 ∷ symbol ≔ symbolNumber abc ∷ n1 ≔ 5 ∷ n2 ≔ 500 ∷ [])
     ∷ []
 
 abbrev pub waiting : List Row
@@ -120,15 +125,15 @@ abbrev pub resultAt : ℕ → Row
 resultAt price = new (kind ≔ kindResult ∷ id ≔ 12 ∷ n1 ≔ price ∷ when ≔ 1_000 ∷ [])
 
 abbrev pub entryAt : ℕ → Row
-entryAt price = new (kind ≔ kindFeed ∷ symbol ≔ abc ∷ n1 ≔ price ∷ n2 ≔ 10 ∷ when ≔ 1_000 ∷ [])
+entryAt price = new (kind ≔ kindFeed ∷ symbol ≔ symbolNumber abc ∷ n1 ≔ price ∷ n2 ≔ 10 ∷ when ≔ 1_000 ∷ [])
 
-abbrev pub orderOf : ℕ → ℕ → ℕ → ℕ → Row
+abbrev pub orderOf : ℕ → ℕ → Symbol → ℕ → Row
 orderOf type owner sym shares =
     new (
-    kind ≔ kindOrder ∷ form ≔ type ∷ flags ≔ 1 ∷ party ≔ owner ∷ symbol ≔ sym ∷ n1 ≔ shares
+    kind ≔ kindOrder ∷ form ≔ type ∷ flags ≔ 1 ∷ party ≔ owner ∷ symbol ≔ symbolNumber sym ∷ n1 ≔ shares
     ∷ when ≔ 1_000 ∷ [])
 
-abbrev pub orderFor : ℕ → ℕ → Row
+abbrev pub orderFor : Symbol → ℕ → Row
 orderFor sym shares = orderOf tmb 1 sym shares
 
 abbrev pub lookupOf : ℕ → Row
@@ -142,12 +147,13 @@ without k rs = keep (λ (r : Row). not (eqb (r .kind) k)) rs
 abbrev pub lastNumber : List Row
 lastNumber =
     new (
-    kind ≔ kindTrade ∷ form ≔ tlb ∷ status ≔ pending ∷ party ≔ 1 ∷ id ≔ tradeNumber .high ∷ symbol ≔ abc ∷ n1 ≔ 5
+    kind ≔ kindTrade ∷ form ≔ tlb ∷ status ≔ pending ∷ party ≔ 1 ∷ id ≔ tradeNumber .high
+    ∷ symbol ≔ symbolNumber abc ∷ n1 ≔ 5
     ∷ n2 ≔ 400
     ∷ [])
     ∷ historyRow pending (tradeNumber .high) 0
     ∷ new (
-    kind ≔ kindRequest ∷ form ≔ tlb ∷ party ≔ 1 ∷ id ≔ tradeNumber .high ∷ symbol ≔ abc ∷ n1 ≔ 5
+    kind ≔ kindRequest ∷ form ≔ tlb ∷ party ≔ 1 ∷ id ≔ tradeNumber .high ∷ symbol ≔ symbolNumber abc ∷ n1 ≔ 5
     ∷ n2 ≔ 400 ∷ [])
     ∷ []
 
@@ -155,7 +161,7 @@ lastNumber =
 abbrev filledUp : Row → Row
 filledUp r =
     cond (eqb (r .kind) kindBroker) (changed r (n1 ≔ brokerTrades .high ∷ []))
-    (cond (eqb (r .symbol) abc && eqb (r .kind) kindSecurity) (changed r (m1 ≔ volume .high ∷ [])) r)
+    (cond (sameSymbol (r .symbol) abc && eqb (r .kind) kindSecurity) (changed r (m1 ≔ volume .high ∷ [])) r)
 
 abbrev pub atLimits : List Row → List Row
 atLimits rs = map filledUp rs

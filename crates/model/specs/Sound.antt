@@ -11,8 +11,10 @@ use Rattle.laws.specs.Tests.{_⇔_}
 use Rattle.laws.specs.Search.{bit, every, count, total, sumZ}
 use Rattle.record.specs.Codes.{completed, kindBand, kindCash, kindCustomer, kindCustomerRate, kindFree, kindLot}
 use Rattle.record.specs.Codes.{kindLotHistory, kindSettlement, kindSummary, kindTrade, kindTradeHistory, pending, tlb}
-use Rattle.record.specs.Key.{keyOf}
+use Rattle.rules.specs.Key.{keyOf}
+use Rattle.record.specs.Symbol.{sameSymbol}
 use Rattle.record.specs.declared.row.Row.{Row}
+use Rattle.record.specs.declared.symbol.Symbol.{Symbol}
 use Rattle.rules.specs.Ranges.{taxPart}
 use Rattle.rules.specs.Rules.{fits}
 use Rattle.model.specs.Flags.{cash}
@@ -70,7 +72,7 @@ s5 rs = every (each kindCustomer (ratesFit rs)) rs
 -- "S6 a trade of status 1 has type 3, 4 or 5 and one request that agrees; no other trade has one."
 abbrev pub agrees : List Row → Row → Row → Bool
 agrees rs t r =
-    hasKey (aRequest (t .id)) r && eqb (r .form) (t .form) && eqb (r .symbol) (t .symbol) && eqb (r .n1) (t .n1)
+    hasKey (aRequest (t .id)) r && eqb (r .form) (t .form) && sameSymbol (r .symbol) (t .symbol) && eqb (r .n1) (t .n1)
     && eqb (r .n2) (t .n2) && eqb (r .party) (found (anAccount (t .party)) rs .n1)
 
 abbrev pub requestRight : List Row → Row → Bool
@@ -93,8 +95,8 @@ s7 rs = every (each kindTrade (historyRight rs)) rs
 
 -- "S8 a lot names a completed trade of its account and symbol. Lots of one account and symbol have one sign. A
 -- summary exists exactly where lots do and equals their sum."
-abbrev pub lotOf : ℕ → ℕ → Row → Bool
-lotOf account symbol r = is kindLot r && eqb (r .party) account && eqb (r .symbol) symbol
+abbrev pub lotOf : ℕ → Symbol → Row → Bool
+lotOf account symbol r = is kindLot r && eqb (r .party) account && sameSymbol (r .symbol) symbol
 
 abbrev pub short : Row → Bool
 short r = ltZ (toZ w64 (r .m1)) (pos 0)
@@ -105,10 +107,10 @@ otherSign l r = lotOf (l .party) (l .symbol) r && not (short l ⇔ short r)
 abbrev pub lotRight : List Row → Row → Bool
 lotRight rs l =
     eqb (found (aTrade (l .id)) rs .status) completed && eqb (found (aTrade (l .id)) rs .party) (l .party)
-    && eqb (found (aTrade (l .id)) rs .symbol) (l .symbol) && eqb (count (otherSign l) rs) 0
+    && sameSymbol (found (aTrade (l .id)) rs .symbol) (l .symbol) && eqb (count (otherSign l) rs) 0
     && there (aSummary (l .party) (l .symbol)) rs
 
-abbrev pub sharesOf : ℕ → ℕ → Row → ℤ
+abbrev pub sharesOf : ℕ → Symbol → Row → ℤ
 sharesOf account symbol r = cond (lotOf account symbol r) (toZ w64 (r .m1)) (pos 0)
 
 abbrev pub equalZ : ℤ → ℤ → Bool

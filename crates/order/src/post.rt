@@ -12,7 +12,7 @@ use record::codes::Kind;
 use record::codes::TradeStatus;
 use record::codes::TradeType;
 use record::row::Row;
-use reply::in_symbol;
+use record::symbol::Symbol;
 use shelf::history::history;
 use shelf::place::nothing;
 use shelf::put::add;
@@ -31,6 +31,7 @@ fn first_status(input: Row) -> u8
 fn trade_row(input: Row, terms: Terms, estimate: Estimate) -> Row
     ensures { λ r. ⌜ r ≡ tradeOf input terms estimate ⌝ }
 {
+    let symbol = input.symbol;
     let mut t = nothing();
     t.kind = Kind::TRADE;
     t.form = input.form;
@@ -38,7 +39,7 @@ fn trade_row(input: Row, terms: Terms, estimate: Estimate) -> Row
     t.flags = input.flags % 4;
     t.party = input.party;
     t.id = terms.number.0;
-    t.symbol = input.symbol;
+    t.symbol = symbol;
     t.n1 = input.n1;
     t.n2 = estimate.price.0;
     t.n4 = terms.charge;
@@ -50,12 +51,13 @@ fn trade_row(input: Row, terms: Terms, estimate: Estimate) -> Row
 fn request_row(input: Row, terms: Terms, estimate: Estimate) -> Row
     ensures { λ r. ⌜ r ≡ requestOf input terms estimate ⌝ }
 {
+    let symbol = input.symbol;
     let mut q = nothing();
     q.kind = Kind::REQUEST;
     q.form = input.form;
     q.party = terms.account.n1;
     q.id = terms.number.0;
-    q.symbol = input.symbol;
+    q.symbol = symbol;
     q.n1 = input.n1;
     q.n2 = estimate.price.0;
     q
@@ -68,7 +70,7 @@ pub fn answer_row(terms: Terms, estimate: Estimate) -> Row
     let mut a = nothing();
     a.kind = Kind::ORDER;
     a.id = terms.number.0;
-    a.symbol = in_symbol(in_cents(estimate.tax));
+    a.symbol = Symbol::holding(in_cents(estimate.tax));
     a.n1 = terms.charge;
     a.n2 = terms.rate.0;
     a.n3 = estimate.price.0;

@@ -2,13 +2,21 @@
 -- n2 28, n3 32, n4 36 (four each), m1 40, m2 48 (eight each), time 56, n5 60 (four each)." Assumes nothing.
 use mathlib.Core.Path.{_≡_, refl, sym, ap, _∙_}
 use mathlib.Core.List.{List, [], _∷_, _++_}
-use Prim.Native.Nat.{ℕ, _^_, _<_}
+use Prim.Native.Nat.{ℕ, _/_, _^_, _<_}
 use lib.ListN.{length, getD}
 use lib.Seq.{sets}
 use native.Mathlib.Nat.{mod-eq-of-lt}
 use Rattle.laws.specs.Lists.{listed-is}
-use Rattle.record.specs.Bytes.{le, be, bytesOf, spelt, stored, Bytes, low-first, high-first, bytes-le, spelt-be}
+use Rattle.record.specs.Bytes.{le, bytesOf, stored, Bytes, low-first, high-first, bytes-le, spelt-be}
+use Rattle.record.specs.Symbol.{numbered, symbolAt, symbolBase, symbolBytes, symbolLong, symbolNumber}
 use Rattle.record.specs.declared.row.Row.{Row}
+
+abbrev pub recordSize : ℕ
+recordSize = 64
+
+-- how many records a run of bytes holds
+abbrev pub places : List ℕ → ℕ
+places b = length b / recordSize
 
 -- the row of a record's bytes
 unfoldable pub decode : List ℕ → Row
@@ -19,7 +27,7 @@ decode l = record {
   flags = getD l 3 0;
   party = le 4 l 4;
   id = le 8 l 8;
-  symbol = be 8 l 16;
+  symbol = symbolAt l 16;
   n1 = le 4 l 24;
   n2 = le 4 l 28;
   n3 = le 4 l 32;
@@ -34,7 +42,7 @@ decode l = record {
 unfoldable pub encode : Row → List ℕ
 encode r =
     bytesOf 1 (r .kind) ++ bytesOf 1 (r .form) ++ bytesOf 1 (r .status) ++ bytesOf 1 (r .flags)
-    ++ bytesOf 4 (r .party) ++ bytesOf 8 (r .id) ++ spelt 8 (r .symbol)
+    ++ bytesOf 4 (r .party) ++ bytesOf 8 (r .id) ++ symbolBytes (r .symbol)
     ++ bytesOf 4 (r .n1) ++ bytesOf 4 (r .n2) ++ bytesOf 4 (r .n3) ++ bytesOf 4 (r .n4)
     ++ bytesOf 8 (r .m1) ++ bytesOf 8 (r .m2) ++ bytesOf 4 (r .time) ++ bytesOf 4 (r .n5)
 
@@ -46,7 +54,7 @@ length-encode r = refl
 unfoldable pub written : List ℕ → Row → List ℕ
 written l r =
     let a = stored (stored (stored (stored l 0 1 (r .kind)) 1 1 (r .form)) 2 1 (r .status)) 3 1 (r .flags) in
-    let b = sets (stored (stored a 4 4 (r .party)) 8 8 (r .id)) 16 (spelt 8 (r .symbol)) in
+    let b = sets (stored (stored a 4 4 (r .party)) 8 8 (r .id)) 16 (symbolBytes (r .symbol)) in
     let c = stored (stored (stored (stored b 24 4 (r .n1)) 28 4 (r .n2)) 32 4 (r .n3)) 36 4 (r .n4) in
     stored (stored (stored (stored c 40 8 (r .m1)) 48 8 (r .m2)) 56 4 (r .time)) 60 4 (r .n5)
 
@@ -63,7 +71,7 @@ pub record Sized (r : Row) : Type 0 where
   pub flags : r .flags < 2 ^ 8
   pub party : r .party < 2 ^ 32
   pub id : r .id < 2 ^ 64
-  pub symbol : r .symbol < 2 ^ 64
+  pub symbol : symbolNumber (r .symbol) < symbolBase
   pub n1 : r .n1 < 2 ^ 32
   pub n2 : r .n2 < 2 ^ 32
   pub n3 : r .n3 < 2 ^ 32
@@ -119,7 +127,7 @@ decode-encode r f =
     (mod-eq-of-lt (f .flags))
     (low-first 4 (r .party) (f .party))
     (low-first 8 (r .id) (f .id))
-    (high-first 8 (r .symbol) (f .symbol))
+    (ap numbered (high-first symbolLong (symbolNumber (r .symbol)) (f .symbol)))
     (low-first 4 (r .n1) (f .n1))
     (low-first 4 (r .n2) (f .n2))
     (low-first 4 (r .n3) (f .n3))
@@ -142,7 +150,7 @@ encode-decode l h b =
     let e3 = one-byte (getD l 3 0) (b 3) in
     let e4 = bytes-le 4 4 l b in
     let e5 = bytes-le 8 8 l b in
-    let e6 = spelt-be 8 16 l b in
+    let e6 = spelt-be symbolLong 16 l b in
     let e7 = bytes-le 4 24 l b in
     let e8 = bytes-le 4 28 l b in
     let e9 = bytes-le 4 32 l b in

@@ -1,6 +1,6 @@
 pub mod Signed
 pub mod Bytes
+pub mod Symbol
+pub mod Spelling
 pub mod Codes
 pub mod Grid
-pub mod Key
-pub mod KeyLaws

@@ -1,11 +1,10 @@
-// Numbers in the bytes of a record: little-endian, signed ones in two's complement; and a symbol's eight bytes as one
-// number.
+// Numbers in the bytes of a record: little-endian, signed ones in two's complement.
 ghost use mathlib.Core.Path.{_≡_};
 ghost use Prim.Native.Nat.{_+_, _<_, _≤_};
 ghost use lib.ListN.{length};
 ghost use mir.Syntax.{w32, w64};
 ghost use mir.Val.{ofZ, toZ};
-ghost use Rattle.record.specs.Bytes.{be, le, spelt, turned};
+ghost use Rattle.record.specs.Bytes.{le};
 
 fn wide8(x: u8) -> u32
     ensures { λ r. ⌜ (r ≡ x) × (r < 256) ⌝ }
@@ -38,52 +37,6 @@ pub fn u64_at(part: &[u8], at: usize) -> u64
 {
     let high = wide32(u32_at(part, at + 4));
     wide32(u32_at(part, at)) + 4294967296 * high
-}
-
-// The number with its four bytes in the other order.
-fn turned(x: u32) -> u32
-    ensures { λ r. ⌜ r ≡ turned x ⌝ }
-{
-    x % 256 * 16777216 + x / 256 % 256 * 65536 + x / 65536 % 256 * 256 + x / 16777216
-}
-
-// The number of four bytes, the first one highest: turned, so that four bytes are one load.
-fn high_at(part: &[u8], at: usize) -> u32
-    requires { ⌜ at + 4 ≤ length (now part) ⌝ }
-    ensures { λ r. ⌜ r ≡ be 4 (now (part .entry)) at ⌝ }
-{
-    turned(u32_at(part, at))
-}
-
-// The eight bytes of a symbol, the first one highest, so that numbers are ordered as the bytes are.
-pub fn symbol_at(part: &[u8], at: usize) -> u64
-    requires { ⌜ at + 8 ≤ length (now part) ⌝ }
-    ensures { λ r. ⌜ r ≡ be 8 (now (part .entry)) at ⌝ }
-{
-    let low = wide32(high_at(part, at + 4));
-    wide32(high_at(part, at)) * 4294967296 + low
-}
-
-// The eight bytes of a symbol again, in their order.
-pub fn spelled(x: u64) -> [u8; 8]
-    ensures { λ r. ⌜ r ≡ spelt 8 x ⌝ }
-{
-    let x1 = x % 72057594037927936;
-    let x2 = x1 % 281474976710656;
-    let x3 = x2 % 1099511627776;
-    let x4 = x3 % 4294967296;
-    let x5 = x4 % 16777216;
-    let x6 = x5 % 65536;
-    [
-        (x / 72057594037927936) as u8,
-        (x1 / 281474976710656) as u8,
-        (x2 / 1099511627776) as u8,
-        (x3 / 4294967296) as u8,
-        (x4 / 16777216) as u8,
-        (x5 / 65536) as u8,
-        (x6 / 256) as u8,
-        (x6 % 256) as u8,
-    ]
 }
 
 // The signed number of 64 bits.

@@ -3,12 +3,14 @@ ghost use mathlib.Core.Path.{_≡_};
 ghost use Prim.Native.Nat.{_+_, _≤_};
 ghost use lib.ListN.{length};
 ghost use lib.Seq.{sets};
-ghost use Rattle.record.specs.Bytes.{spelt, stored};
-ghost use Rattle.record.specs.Grid.{decode, encode};
+ghost use Rattle.record.specs.Bytes.{stored};
+ghost use Rattle.record.specs.Grid.{decode, encode, places};
+ghost use Rattle.record.specs.Symbol.{symbolBytes};
 use crate::bytes;
+use crate::symbol::Symbol;
 
 // The fifteen fields in the order of their bytes. `form` is the field that the rules call type; a signed field stands
-// as its bits; the symbol's first byte is the number's highest.
+// as its bits.
 pub struct Row {
     pub kind: u8,
     pub form: u8,
@@ -16,7 +18,7 @@ pub struct Row {
     pub flags: u8,
     pub party: u32,
     pub id: u64,
-    pub symbol: u64,
+    pub symbol: Symbol,
     pub n1: u32,
     pub n2: u32,
     pub n3: u32,
@@ -64,6 +66,13 @@ impl Grid {
     pub const N5: usize = 60;
 }
 
+// How many records a run of bytes holds.
+pub fn places(book: &[u8]) -> usize
+    ensures { λ r. ⌜ r ≡ places (now (book .entry)) ⌝ }
+{
+    book.len() / Grid::SIZE
+}
+
 // The number x in `width` bytes at a place.
 fn put(bytes: &mut [u8; Grid::SIZE], at: usize, width: usize, x: u64)
     requires { ⌜ at + width ≤ 64 ⌝ }
@@ -99,11 +108,11 @@ fn put64(bytes: &mut [u8; Grid::SIZE], at: usize, x: u64)
     put(bytes, at, 8, x);
 }
 
-// The eight bytes of a symbol, in their order.
-fn put_symbol(bytes: &mut [u8; Grid::SIZE], x: u64)
-    ensures { λ _. ⌜ now (bytes .exit) ≡ sets (now (bytes .entry)) 16 (spelt 8 x) ⌝ }
+// The bytes of a symbol, in their order.
+fn put_symbol(bytes: &mut [u8; Grid::SIZE], x: Symbol)
+    ensures { λ _. ⌜ now (bytes .exit) ≡ sets (now (bytes .entry)) 16 (symbolBytes x) ⌝ }
 {
-    let s = bytes::spelled(x);
+    let s = x.spelled();
     bytes[Grid::SYMBOL] = s[0];
     bytes[Grid::SYMBOL + 1] = s[1];
     bytes[Grid::SYMBOL + 2] = s[2];
@@ -138,7 +147,7 @@ impl Row {
             flags: part[Grid::FLAGS],
             party: bytes::u32_at(part, Grid::PARTY),
             id: bytes::u64_at(part, Grid::ID),
-            symbol: bytes::symbol_at(part, Grid::SYMBOL),
+            symbol: Symbol::at(part, Grid::SYMBOL),
             n1: bytes::u32_at(part, Grid::N1),
             n2: bytes::u32_at(part, Grid::N2),
             n3: bytes::u32_at(part, Grid::N3),
@@ -154,6 +163,7 @@ impl Row {
     pub fn bytes(self) -> [u8; Grid::SIZE]
         ensures { λ r. ⌜ r ≡ encode self ⌝ }
     {
+        let symbol = self.symbol;
         let mut a = [0u8; Grid::SIZE];
         put8(&mut a, Grid::KIND, self.kind);
         put8(&mut a, Grid::FORM, self.form);
@@ -161,7 +171,7 @@ impl Row {
         put8(&mut a, Grid::FLAGS, self.flags);
         put32(&mut a, Grid::PARTY, self.party);
         put64(&mut a, Grid::ID, self.id);
-        put_symbol(&mut a, self.symbol);
+        put_symbol(&mut a, symbol);
         put32(&mut a, Grid::N1, self.n1);
         put32(&mut a, Grid::N2, self.n2);
         put32(&mut a, Grid::N3, self.n3);

@@ -11,7 +11,8 @@ use borrow.Author.Tests.{eqb-true}
 use Rattle.laws.specs.Search.{total}
 use Rattle.laws.specs.Tests.{and-right}
 use Rattle.record.specs.Codes.{kindBroker}
-use Rattle.record.specs.Key.{keyOf, sameKey}
+use Rattle.rules.specs.Key.{keyOf, sameKey}
+use Rattle.record.specs.Symbol.{sameSymbol}
 use Rattle.record.specs.declared.row.Row.{Row}
 use Rattle.model.specs.Status.{isDone}
 use Rattle.model.specs.Names.{aBroker}
@@ -36,7 +37,7 @@ pub record Field (f : Row → ℕ) (g : ℕ → ℕ) : Type 0 where
   pub raised : (b : Row) (c : ℕ) → f (brokerAfter b c) ≡ f b + g c
 
 not-one : (i : ℕ) (f : Row → ℕ) (r : Row) → is kindBroker r ≡ false → only (hasKey (aBroker i)) f nothing r ≡ 0
-unfolding hasKey sameKey keyOf
+unfolding hasKey sameKey keyOf sameSymbol
 not-one i f r e = rw e
 
 module _ (own : ℕ → ℕ) (f : Row → ℕ) (g : ℕ → ℕ) (field : Field f g) (i : ℕ) where

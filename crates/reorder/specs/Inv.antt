@@ -12,7 +12,8 @@ use Rattle.laws.specs.Search.{bit, count, total}
 use Rattle.laws.specs.Puts.{news, olds, same-sums}
 use Rattle.laws.specs.Total.{total-append, total-map, total-single, total-zero}
 use Rattle.record.specs.Codes.{kindBroker, kindFree, kindTrade}
-use Rattle.record.specs.Key.{keyOf, sameKey}
+use Rattle.rules.specs.Key.{keyOf, sameKey}
+use Rattle.record.specs.Symbol.{sameSymbol}
 use Rattle.record.specs.declared.row.Row.{Row}
 use Rattle.rules.specs.Meaning.{means-fits, means-trade}
 use Rattle.rules.specs.Rules.{as-kind, resultInput}
@@ -160,7 +161,7 @@ module _ (own : ℕ → ℕ) (rs : List Row) (input : Row) (v : Inv own rs) wher
         omega arith
 
     no-party : (i : ℕ) (r : Row) → r .kind ≡ kindBroker → partyIf i r ≡ 0
-    unfolding hasKey sameKey keyOf
+    unfolding hasKey sameKey keyOf sameSymbol
     no-party i r e = rw e
 
     owns-done : (i : ℕ) → sound (outcome rs input .rows) ≡ true

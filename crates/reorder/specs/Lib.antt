@@ -15,3 +15,9 @@ pub mod OnRows
 pub mod OnBytes
 pub mod Proof
 pub mod Witness
+pub mod AnyRule
+pub mod Pair
+pub mod Counter
+pub mod Needed
+pub mod InTurn
+pub mod NotSaid

@@ -16,11 +16,11 @@ use Rattle.laws.specs.Search.{count, place, seek, the, total}
 use Rattle.laws.specs.Tests.{and-left, and-right}
 use Rattle.record.specs.Codes.{kindTrade}
 use Rattle.record.specs.Grid.{decode}
-use Rattle.record.specs.declared.key.Key.{Key}
+use Rattle.rules.specs.declared.key.Key.{Key}
 use Rattle.record.specs.declared.row.Row.{Row}
 use Rattle.rules.specs.Meaning.{means-fits, means-trade}
 use Rattle.rules.specs.Ranges.{limited}
-use Rattle.rules.specs.Rules.{as-kind, resultInput}
+use Rattle.rules.specs.Rules.{as-kind, obeys, resultInput, resultInputShape}
 use Rattle.model.specs.declared.Status.the-variants.{BadInput, BadLength, NoRoom, OverLimit}
 use Rattle.model.specs.Status.{isDone}
 use Rattle.model.specs.Call.{Reply, aResult, either, refusalArea, replied, resultCall, run, shell}
@@ -128,7 +128,7 @@ module _ (b input area : List ℕ) (s : SoundBytes b) (l : length input ≡ reco
 -- ---- a result of wrong lengths
 -- the row of no input
 no-input : resultInput nothing ≡ false
-unfolding resultInput limited
+unfolding obeys resultInputShape limited
 no-input = refl
 
 no-step : (rs : List Row) → (step rs nothing .0 .status ≡ BadInput) × (step rs nothing .1 ≡ rs)

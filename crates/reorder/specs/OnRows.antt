@@ -15,7 +15,8 @@ use Rattle.laws.specs.Place.{the-passes}
 use Rattle.laws.specs.Search.{bit, count, keep, the, total}
 use Rattle.laws.specs.Total.{total-on}
 use Rattle.record.specs.Codes.{kindBroker, kindFree}
-use Rattle.record.specs.Key.{among}
+use Rattle.rules.specs.Key.{among}
+use Rattle.record.specs.Symbol.{numbered, symbolNumber}
 use Rattle.record.specs.declared.row.Row.{Row}
 use Rattle.model.specs.Names.{aBroker, aTrade}
 use Rattle.model.specs.Rows.{found, is, mostRecords, nothing, sameRow}
@@ -182,7 +183,7 @@ module _ (book : List Row) (good : sound book ≡ true) (few : length book ≤ m
       let k3 = same (λ r. r .flags) (record { blank = refl; raised = λ b c. omega arith }) in
       let k4 = same (λ r. r .party) (record { blank = refl; raised = λ b c. omega arith }) in
       let k5 = same (λ r. r .id) (record { blank = refl; raised = λ b c. omega arith }) in
-      let k6 = same (λ r. r .symbol) (record { blank = refl; raised = λ b c. omega arith }) in
+      let k6 = same (λ r. symbolNumber (r .symbol)) (record { blank = refl; raised = λ b c. omega arith }) in
       let k7 = field-same i (λ r. r .n1) (λ c. 1) (record { blank = refl; raised = λ b c. refl }) in
       let k8 = same (λ r. r .n2) (record { blank = refl; raised = λ b c. omega arith }) in
       let k9 = same (λ r. r .n3) (record { blank = refl; raised = λ b c. omega arith }) in
@@ -198,7 +199,7 @@ module _ (book : List Row) (good : sound book ≡ true) (few : length book ≤ m
         flags = k3 j;
         party = k4 j;
         id = k5 j;
-        symbol = k6 j;
+        symbol = numbered (k6 j);
         n1 = k7 j;
         n2 = k8 j;
         n3 = k9 j;

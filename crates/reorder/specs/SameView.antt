@@ -10,9 +10,11 @@ use Rattle.laws.specs.Keep.{count-one}
 use Rattle.laws.specs.Tests.{_⇔_, and-both, and-left, and-right}
 use Rattle.record.specs.Codes.{kindAccount, kindBand, kindCustomerRate, kindFree, kindLot, kindLotHistory}
 use Rattle.record.specs.Codes.{kindSummary, kindTrade}
-use Rattle.record.specs.Key.{among}
-use Rattle.record.specs.declared.key.Key.{Key}
+use Rattle.rules.specs.Key.{among}
+use Rattle.record.specs.Symbol.{sameSymbol}
+use Rattle.rules.specs.declared.key.Key.{Key}
 use Rattle.record.specs.declared.row.Row.{Row}
+use Rattle.record.specs.declared.symbol.Symbol.{Symbol}
 use Rattle.model.specs.Band.{bandFor, bandRate}
 use Rattle.model.specs.Flags.{lifo}
 use Rattle.model.specs.Lots.{before, closes, lotsFor}
@@ -69,7 +71,7 @@ module _ (own : ℕ → ℕ) (a : ℕ) (s t : List Row) (good : sound t ≡ true
       let p = eqb-true (x .party) n (and-right (is kindAccount x) _ (sym (by-party kindAccount refl n x) ∙ q)) in
       mine-own own a x kindAccount k refl (whose-party own x kindAccount k refl ∙ p ∙ e))
 
-  summary-same : (n y : ℕ) → n ≡ a → found (aSummary n y) s ≡ found (aSummary n y) t
+  summary-same : (n : ℕ) (y : Symbol) → n ≡ a → found (aSummary n y) s ≡ found (aSummary n y) t
   summary-same n y e =
       found-same (aSummary n y) refl
       (λ x q.
@@ -94,10 +96,10 @@ module _ (own : ℕ → ℕ) (a : ℕ) (s t : List Row) (good : sound t ≡ true
       common kindBand (refl, refl, refl, refl) x (means-band form tier exchange shares x .shows e .0 .0 .0 .0 .0))
       s t h (band-once t good form tier exchange shares))
 
-  lot-fields : (form n y : ℕ) (x : Row) → closes form n y x ≡ true → (x .kind ≡ kindLot) × (x .party ≡ n)
+  lot-fields : (form n : ℕ) (y : Symbol) (x : Row) → closes form n y x ≡ true → (x .kind ≡ kindLot) × (x .party ≡ n)
   lot-fields form n y x e =
       let l = and-left (lotOf n y x) (buys form ⇔ short x) e in
-      let g = and-left (is kindLot x && eqb (x .party) n) (eqb (x .symbol) y) l in (
+      let g = and-left (is kindLot x && eqb (x .party) n) (sameSymbol (x .symbol) y) l in (
         eqb-true (x .kind) kindLot (and-left (is kindLot x) (eqb (x .party) n) g),
         eqb-true (x .party) n (and-right (is kindLot x) (eqb (x .party) n) g),
       )
@@ -107,7 +109,7 @@ module _ (own : ℕ → ℕ) (a : ℕ) (s t : List Row) (good : sound t ≡ true
       by-id kindLot refl i x
       ∙ and-both (is kindLot x) (eqb (x .id) i) (eq-eqb (x .kind) kindLot k) (eq-eqb (x .id) i e)
 
-  lots-same : (form flags n y : ℕ) → n ≡ a → lotsFor s form flags n y ≡ lotsFor t form flags n y
+  lots-same : (form flags n : ℕ) (y : Symbol) → n ≡ a → lotsFor s form flags n y ≡ lotsFor t form flags n y
   unfolding lotsFor
   lots-same form flags n y e =
       sort-agree (before (lifo flags)) (before-total (lifo flags)) (before-trans (lifo flags))

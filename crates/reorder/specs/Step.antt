@@ -16,6 +16,7 @@ use Rattle.laws.specs.Sort.{of-sort}
 use Rattle.laws.specs.Tests.{_⇔_, and-left, and-right}
 use Rattle.laws.specs.Puts.{news, olds, puts-total}
 use Rattle.record.specs.Codes.{kindAccount, kindFree, kindLot, kindSummary, kindTrade}
+use Rattle.record.specs.Symbol.{sameSymbol}
 use Rattle.record.specs.declared.row.Row.{Row}
 use Rattle.rules.specs.Rules.{resultInput}
 use Rattle.model.specs.declared.Status.{Status}
@@ -203,10 +204,10 @@ module _ (rs : List Row) (input : Row) (good : sound rs ≡ true) (live : is kin
         let y = tradeRow .symbol in
         let k = aSummary p y in
         let r = found k rs in
-        let h : (is kindSummary r && eqb (r .party) p && eqb (r .symbol) y) ≡ true =
+        let h : (is kindSummary r && eqb (r .party) p && sameSymbol (r .symbol) y) ≡ true =
         sym (by-holder p y r) ∙ found-has k rs (found-live rs k s)
         in
-        let g = and-left (is kindSummary r && eqb (r .party) p) (eqb (r .symbol) y) h in (
+        let g = and-left (is kindSummary r && eqb (r .party) p) (sameSymbol (r .symbol) y) h in (
           eqb-true (r .kind) kindSummary (and-left (is kindSummary r) (eqb (r .party) p) g),
           eqb-true (r .party) p (and-right (is kindSummary r) (eqb (r .party) p) g),
         )
@@ -220,7 +221,7 @@ module _ (rs : List Row) (input : Row) (good : sound rs ≡ true) (live : is kin
         let q : Row → Bool = λ r. closes (t .form) p y r in
         let k = keep-from q l rs (of-sort (before (lifo (t .flags))) (keep q rs) l m) in
         let h = and-left (lotOf p y l) (buys (t .form) ⇔ short l) (k .1) in
-        let g = and-left (is kindLot l && eqb (l .party) p) (eqb (l .symbol) y) h in (
+        let g = and-left (is kindLot l && eqb (l .party) p) (sameSymbol (l .symbol) y) h in (
           eqb-true (l .kind) kindLot (and-left (is kindLot l) (eqb (l .party) p) g),
           eqb-true (l .party) p (and-right (is kindLot l) (eqb (l .party) p) g),
         )

@@ -3,7 +3,7 @@
 -- places, the answer to one of them is another. Each fact of the book is found by computation. Assumes nothing.
 use mathlib.Core.Path.{_≡_, refl, sym, ap, _∙_}
 use mathlib.Core.Bool.{Bool, true, false, not, _&&_, false≢true}
-use mathlib.Core.List.{List, [], _∷_, _++_}
+use mathlib.Core.List.{List, [], _∷_, _++_, List·Memᴰ}
 use Prim.Native.Nat.{ℕ, _+_}
 use native.Mathlib.Omega.{arith}
 use lib.Dec.{eqb, ltb}
@@ -14,9 +14,11 @@ use Rattle.laws.specs.Search.{bit, count, every, keep, means-every, seek, total
 use Rattle.record.specs.Codes.{kindAccount, kindBand, kindBroker, kindCustomer, kindResult, kindSecurity, kindTrade}
 use Rattle.record.specs.Codes.{submitted, tmb, tms}
 use Rattle.record.specs.Grid.{decode, encode}
+use Rattle.record.specs.Symbol.{symbolNumber}
 use Rattle.record.specs.declared.row.Row.{Row}
 use Rattle.rules.specs.Ranges.{flags, form, id, kind, n1, n2, n3, n4, party, status, symbol, when}
 use Rattle.model.specs.declared.Status.{Status}
+use Rattle.model.specs.declared.Status.the-variants.{NoRoom, OverLimit}
 use Rattle.model.specs.Call.{Reply}
 use Rattle.model.specs.Edit.{_≔_, new}
 use Rattle.model.specs.Evaluate.{resultOpened}
@@ -33,7 +35,7 @@ use Rattle.reorder.specs.Statement.{replyTo}
 abbrev sent : ℕ → ℕ → ℕ → ℕ → List Row
 sent type account number shares =
     new (
-    kind ≔ kindTrade ∷ form ≔ type ∷ status ≔ submitted ∷ flags ≔ 1 ∷ party ≔ account ∷ id ≔ number ∷ symbol ≔ abc
+    kind ≔ kindTrade ∷ form ≔ type ∷ status ≔ submitted ∷ flags ≔ 1 ∷ party ≔ account ∷ id ≔ number ∷ symbol ≔ symbolNumber abc
     ∷ n1 ≔ shares
     ∷ n2 ≔ 3_000 ∷ n4 ≔ 500 ∷ when ≔ 300 ∷ [])
     ∷ historyRow submitted number 300
@@ -53,7 +55,7 @@ book =
     ∷ new (kind ≔ kindCustomer ∷ form ≔ 1 ∷ party ≔ 1 ∷ [])
     ∷ account 1
     ∷ account 2
-    ∷ new (kind ≔ kindSecurity ∷ form ≔ 1 ∷ symbol ≔ abc ∷ n1 ≔ 3_000 ∷ [])
+    ∷ new (kind ≔ kindSecurity ∷ form ≔ 1 ∷ symbol ≔ symbolNumber abc ∷ n1 ≔ 3_000 ∷ [])
     ∷ band tmb
     ∷ band tms
     ∷ (sent tmb 1 11 10 ++ sent tmb 2 12 10 ++ sent tms 1 13 4 ++ replicate 18 nothing))
@@ -107,7 +109,7 @@ account-4 : accountOf list area book 4 ≡ 0
 account-4 = refl
 
 -- neither -104 nor -105
-abbrev fine : Status → Bool
+abbrev pub fine : Status → Bool
 fine s = not (eqb (natAbs (number s)) 104) && not (eqb (natAbs (number s)) 105)
 
 fine-one : every (λ (r : Reply). fine (r .status)) (replies list area book one) ≡ true
@@ -132,15 +134,21 @@ unfolding resultOpened ending
 place-other = refl
 
 -- ---- all that the theorem asks
-unhindered : (given : List Reply) → every (λ (r : Reply). fine (r .status)) given ≡ true → Unhindered given
-unhindered given e =
+-- a status that fails a test is nobody's where all pass it
+pub none-is : (s : Status) (passes : Status → Bool) → passes s ≡ false → (given : List Reply)
+    → every (λ (r : Reply). passes (r .status)) given ≡ true → (r : Reply) → List·Memᴰ r given → r .status ≡ s → ⊥
+none-is s passes fails given e r m q =
     let each =
-    means-every given (λ (r : Reply). record { shows = λ (h : fine (r .status) ≡ true). h; holds = λ h. h }) .shows e
+    means-every given (λ (r : Reply). record { shows = λ (h : passes (r .status) ≡ true). h; holds = λ h. h }) .shows e
     in
-    record {
-      no-limit = λ r m q. false≢true (sym (ap fine q) ∙ each r m);
-      no-room = λ r m q. false≢true (sym (ap fine q) ∙ each r m);
-    }
+    false≢true (sym fails ∙ sym (ap passes q) ∙ each r m)
+
+pub unhindered : (passes : Status → Bool) → passes OverLimit ≡ false → passes NoRoom ≡ false → (given : List Reply)
+    → every (λ (r : Reply). passes (r .status)) given ≡ true → Unhindered given
+unhindered passes limit room given e = record {
+  no-limit = none-is OverLimit passes limit given e;
+  no-room = none-is NoRoom passes room given e;
+}
 
 -- each place below five once
 in-order : (order : List ℕ)
@@ -201,8 +209,8 @@ two-runs = record {
     is-order₂ = order-other;
     own-order = own-order;
   };
-  unhindered₁ = unhindered (replies list area book one) fine-one;
-  unhindered₂ = unhindered (replies list area book other) fine-other;
+  unhindered₁ = unhindered fine refl refl (replies list area book one) fine-one;
+  unhindered₂ = unhindered fine refl refl (replies list area book other) fine-other;
 }
 
 -- so the answers are the same, and the rows at the end
@@ -228,6 +236,6 @@ answers-of = refl
 pub order-matters : Unhindered (replies list area book swapped)
     × (replyTo list area book one 0 .answer ≡ replyTo list area book swapped 0 .answer → ⊥)
 order-matters = (
-  unhindered (replies list area book swapped) fine-swapped,
+  unhindered fine refl refl (replies list area book swapped) fine-swapped,
   λ e. eqb-false (balanceIn one) (balanceIn swapped) answers-of (ap (λ (k : List ℕ). decode k .m1) e),
 )

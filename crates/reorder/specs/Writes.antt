@@ -12,7 +12,8 @@ use mir.Val.{toZ}
 use Rattle.laws.specs.All.{All, all-append, all-map}
 use Rattle.record.specs.Codes.{kindAccount, kindBroker, kindCash, kindFree, kindLot, kindLotHistory, kindSettlement}
 use Rattle.record.specs.Codes.{kindSummary, kindTrade, kindTradeHistory}
-use Rattle.record.specs.Key.{among, keyOf, sameKey}
+use Rattle.rules.specs.Key.{among, keyOf, sameKey}
+use Rattle.record.specs.Symbol.{sameSymbol}
 use Rattle.record.specs.declared.row.Row.{Row}
 use Rattle.model.specs.Lots.{Closing, closings}
 use Rattle.model.specs.Names.{aTrade}
@@ -51,7 +52,7 @@ pub record Turn (own : ℕ → ℕ) (a : ℕ) (w : Row × Row) : Type 0 where
   pub party : (i : ℕ) → partyIf i (w .0) ≡ partyIf i (w .1)
 
 no-trade : (i : ℕ) (r : Row) → is kindTrade r ≡ false → partyIf i r ≡ 0
-unfolding hasKey sameKey keyOf
+unfolding hasKey sameKey keyOf sameSymbol
 no-trade i r e = rw e
 
 module _ (own : ℕ → ℕ) (a : ℕ) where
@@ -126,7 +127,7 @@ module _ (own : ℕ → ℕ) (input : Row) (v : View) (f : Figures) (s : Seen ow
       added own a h (its-trade own a h k e p q n (ap own i ∙ s .t-own)) (ap (λ (x : ℕ). eqb x kindTrade) e ∙ m)
 
   trade-turns : T (t, tradeAfter t (input .n1) (f .commission) (f .tax) (input .time))
-  unfolding hasKey sameKey keyOf
+  unfolding hasKey sameKey keyOf sameSymbol
   trade-turns = record {
     old = its-trade own a t kindTrade (s .t-kind) refl refl refl (s .t-own);
     new = its-trade own a _ kindTrade (s .t-kind) refl refl refl (s .t-own);

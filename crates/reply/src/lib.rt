@@ -1,11 +1,10 @@
-// How a call ends: the number of its status, the answer of a refusal, and a number in the bytes of an answer's symbol.
+// How a call ends: the first check that fails, the number of its status, and the answer of a refusal.
 ghost use mathlib.Core.Path.{_≡_};
 ghost use mathlib.Core.Bool.{Bool};
 ghost use Prim.Native.Nat.{_≤_};
 ghost use lib.ListN.{length, replicate};
 ghost use Rattle.model.specs.Status.{isDone, number};
 ghost use Rattle.model.specs.Call.{either, refusalArea};
-ghost use Rattle.model.specs.Edit.{inSymbol};
 ghost use Rattle.model.specs.Rows.{recordSize};
 ghost use Rattle.model.specs.Plan.{also};
 ghost use Rattle.reply.specs.Refusal.{refusal};
@@ -94,20 +93,4 @@ pub fn finish(area: &mut [u8], s: Status) -> i32
     }
     refuse(area, s);
     code(s)
-}
-
-// A number in the place of a symbol: little-endian as every number is, where a symbol's first byte is its highest.
-pub fn in_symbol(x: u64) -> u64
-    ensures { λ r. ⌜ r ≡ inSymbol x ⌝ }
-{
-    let x1 = x / 256;
-    let x2 = x1 / 256;
-    let x3 = x2 / 256;
-    let x4 = x3 / 256;
-    let x5 = x4 / 256;
-    let x6 = x5 / 256;
-    let x7 = x6 / 256;
-    let low = x4 % 256 * 16777216 + (x5 % 256 * 65536 + (x6 % 256 * 256 + x7 % 256));
-    let rest = x2 % 256 * 1099511627776 + (x3 % 256 * 4294967296 + low);
-    x % 256 * 72057594037927936 + (x1 % 256 * 281474976710656 + rest)
 }

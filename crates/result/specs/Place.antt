@@ -4,7 +4,7 @@ use mathlib.Core.List.{List, [], _∷_}
 use Prim.Native.Nat.{ℕ, zero, suc, _-_}
 use lib.ListN.{getD}
 use Rattle.laws.specs.Search.{place}
-use Rattle.record.specs.Key.{keyOf}
+use Rattle.rules.specs.Key.{keyOf}
 use Rattle.record.specs.declared.row.Row.{Row}
 use Rattle.model.specs.Rows.{hasKey}
 

@@ -16,8 +16,8 @@ use Rattle.laws.specs.Sort.{every-sort}
 use Rattle.laws.specs.Tests.{and-both, and-left, and-right}
 use Rattle.laws.specs.Walk.{from-high}
 use Rattle.record.specs.Codes.{kindLot}
-use Rattle.record.specs.Key.{keyOf}
-use Rattle.record.specs.KeyLaws.{same-keys}
+use Rattle.rules.specs.Key.{keyOf}
+use Rattle.rules.specs.KeyLaws.{same-keys}
 use Rattle.record.specs.declared.row.Row.{Row}
 use Rattle.rules.specs.Meaning.{means-fits, means-lot}
 use Rattle.rules.specs.Ranges.{sharesMost}

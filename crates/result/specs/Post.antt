@@ -12,9 +12,9 @@ use Rattle.laws.specs.Change.{fill, fill-append, sets, sets-append}
 use Rattle.laws.specs.Search.{place, run}
 use Rattle.laws.specs.Tests.{and-left, and-right}
 use Rattle.record.specs.Codes.{kindFree}
-use Rattle.record.specs.Key.{keyOf}
-use Rattle.record.specs.KeyLaws.{same-keys}
-use Rattle.record.specs.declared.key.Key.{Key}
+use Rattle.rules.specs.Key.{keyOf}
+use Rattle.rules.specs.KeyLaws.{same-keys}
+use Rattle.rules.specs.declared.key.Key.{Key}
 use Rattle.record.specs.declared.row.Row.{Row}
 use Rattle.record.specs.Signed.{up}
 use Rattle.rules.specs.Meaning.{means-result-input}

@@ -16,7 +16,7 @@ use record::bytes::bits64;
 use record::codes::Kind;
 use record::codes::TradeStatus;
 use record::row::Row;
-use reply::in_symbol;
+use record::symbol::Symbol;
 use shelf::place::nothing;
 use verdict::figures::Figures;
 
@@ -50,11 +50,12 @@ pub fn lot_history(lot: u64, trade: u64, old: Shares, left: Shares) -> Row
 pub fn new_lot(trade: Row, price: Price, count: Shares, time: u32) -> Row
     ensures { λ r. ⌜ r ≡ newLot trade (price .0) (count .0) time ⌝ }
 {
+    let symbol = trade.symbol;
     let mut l = nothing();
     l.kind = Kind::LOT;
     l.party = trade.party;
     l.id = trade.id;
-    l.symbol = trade.symbol;
+    l.symbol = symbol;
     l.n1 = price.0;
     l.m1 = bits64(count.0);
     l.time = time;
@@ -64,10 +65,11 @@ pub fn new_lot(trade: Row, price: Price, count: Shares, time: u32) -> Row
 pub fn new_summary(trade: Row, count: Shares) -> Row
     ensures { λ r. ⌜ r ≡ newSummary trade (count .0) ⌝ }
 {
+    let symbol = trade.symbol;
     let mut s = nothing();
     s.kind = Kind::SUMMARY;
     s.party = trade.party;
-    s.symbol = trade.symbol;
+    s.symbol = symbol;
     s.m1 = bits64(count.0);
     s
 }
@@ -145,7 +147,7 @@ pub fn answer_row(trade: Row, figures: Figures) -> Row
     a.kind = Kind::RESULT;
     a.party = trade.party;
     a.id = trade.id;
-    a.symbol = in_symbol(in_cents(figures.tax));
+    a.symbol = Symbol::holding(in_cents(figures.tax));
     a.m1 = bits64(figures.balance.0);
     a.m2 = bits64(figures.settlement.0);
     a

@@ -1,5 +1,8 @@
 pub mod Ranges
-pub mod Symbol
 pub mod Signed
 pub mod Rules
+pub mod Key
+pub mod KeyLaws
+pub mod Marks
 pub mod Meaning
+pub mod Typed

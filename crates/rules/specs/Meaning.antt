@@ -11,11 +11,17 @@ use mir.Syntax.{w32, w64}
 use mir.Val.{toZ}
 use Rattle.laws.specs.Tests.{Means, means-le, means-eq, means-ne, means-and, means-or, means-iff}
 use Rattle.record.specs.Codes.{completed, tms}
+use Rattle.record.specs.Spelling.{Spelt, means-symbol}
 use Rattle.record.specs.declared.row.Row.{Row}
 use Rattle.rules.specs.Ranges.{Limited, means-limited, moneyMost, sharesMost}
 use Rattle.rules.specs.Signed.{means-near}
-use Rattle.rules.specs.Symbol.{Symbol, means-symbol}
-use Rattle.rules.specs.Rules.{fits, free, freeLimits, broker, brokerLimits, customer, customerLimits, taxRate}
+use Rattle.rules.specs.Rules.{fits, obeys}
+use Rattle.rules.specs.Rules.{freeShape, brokerShape, customerShape, taxRateShape, customerRateShape}
+use Rattle.rules.specs.Rules.{accountShape, securityShape, bandShape, chargeShape, tradeShape}
+use Rattle.rules.specs.Rules.{requestShape, tradeHistoryShape, lotShape, summaryShape}
+use Rattle.rules.specs.Rules.{lotHistoryShape, settlementShape, cashShape, orderInputShape}
+use Rattle.rules.specs.Rules.{resultInputShape, feedInputShape, lookupInputShape}
+use Rattle.rules.specs.Rules.{free, freeLimits, broker, brokerLimits, customer, customerLimits, taxRate}
 use Rattle.rules.specs.Rules.{taxRateLimits, customerRate, customerRateLimits, account, accountLimits}
 use Rattle.rules.specs.Rules.{security, securityLimits, band, bandLimits, charge, chargeLimits, trade}
 use Rattle.rules.specs.Rules.{tradeLimits, request, requestLimits, tradeHistory, tradeHistoryLimits, lot}
@@ -27,71 +33,71 @@ abbrev pub Free : Row → Type 0
 Free r = Limited r freeLimits
 
 pub means-free : (r : Row) → Means (free r) (Free r)
-unfolding free
+unfolding obeys freeShape
 means-free r = means-limited r freeLimits
 
 abbrev pub Broker : Row → Type 0
 Broker r = Limited r brokerLimits
 
 pub means-broker : (r : Row) → Means (broker r) (Broker r)
-unfolding broker
+unfolding obeys brokerShape
 means-broker r = means-limited r brokerLimits
 
 abbrev pub Customer : Row → Type 0
 Customer r = Limited r customerLimits
 
 pub means-customer : (r : Row) → Means (customer r) (Customer r)
-unfolding customer
+unfolding obeys customerShape
 means-customer r = means-limited r customerLimits
 
 abbrev pub TaxRate : Row → Type 0
 TaxRate r = Limited r taxRateLimits
 
 pub means-tax-rate : (r : Row) → Means (taxRate r) (TaxRate r)
-unfolding taxRate
+unfolding obeys taxRateShape
 means-tax-rate r = means-limited r taxRateLimits
 
 abbrev pub CustomerRate : Row → Type 0
 CustomerRate r = Limited r customerRateLimits
 
 pub means-customer-rate : (r : Row) → Means (customerRate r) (CustomerRate r)
-unfolding customerRate
+unfolding obeys customerRateShape
 means-customer-rate r = means-limited r customerRateLimits
 
 abbrev pub Account : Row → Type 0
 Account r = Limited r accountLimits × (natAbs (toZ w64 (r .m1)) ≤ moneyMost)
 
 pub means-account : (r : Row) → Means (account r) (Account r)
-unfolding account
+unfolding obeys accountShape
 means-account r = means-and (means-limited r accountLimits) (means-near w64 (r .m1) moneyMost)
 
 abbrev pub Security : Row → Type 0
-Security r = Limited r securityLimits × (Symbol (r .symbol))
+Security r = Limited r securityLimits × Spelt (r .symbol)
 
 pub means-security : (r : Row) → Means (security r) (Security r)
-unfolding security
+unfolding obeys securityShape
 means-security r = means-and (means-limited r securityLimits) (means-symbol (r .symbol))
 
 abbrev pub Band : Row → Type 0
 Band r = Limited r bandLimits × (r .n1 ≤ r .n2)
 
 pub means-band : (r : Row) → Means (band r) (Band r)
-unfolding band
+unfolding obeys bandShape
 means-band r = means-and (means-limited r bandLimits) (means-le (r .n1) (r .n2))
 
 abbrev pub Charge : Row → Type 0
 Charge r = Limited r chargeLimits
 
 pub means-charge : (r : Row) → Means (charge r) (Charge r)
-unfolding charge
+unfolding obeys chargeShape
 means-charge r = means-limited r chargeLimits
 
 abbrev pub Trade : Row → Type 0
 Trade r = ((Limited r tradeLimits × (((r .n3 ≡ 0 → ⊥) → r .status ≡ completed) × (r .status ≡ completed → r .n3 ≡ 0
-    → ⊥))) × ((r .m2 ≡ 0) ⊎ (r .status ≡ completed))) × (Symbol (r .symbol))
+    → ⊥))) × ((r .m2 ≡ 0) ⊎ (r .status ≡ completed))) × Spelt (r .symbol)
 
 pub means-trade : (r : Row) → Means (trade r) (Trade r)
-unfolding trade
+unfolding obeys tradeShape
 means-trade r =
     means-and
     (means-and
@@ -100,24 +106,24 @@ means-trade r =
     (means-symbol (r .symbol))
 
 abbrev pub Request : Row → Type 0
-Request r = Limited r requestLimits × (Symbol (r .symbol))
+Request r = Limited r requestLimits × Spelt (r .symbol)
 
 pub means-request : (r : Row) → Means (request r) (Request r)
-unfolding request
+unfolding obeys requestShape
 means-request r = means-and (means-limited r requestLimits) (means-symbol (r .symbol))
 
 abbrev pub TradeHistory : Row → Type 0
 TradeHistory r = Limited r tradeHistoryLimits
 
 pub means-trade-history : (r : Row) → Means (tradeHistory r) (TradeHistory r)
-unfolding tradeHistory
+unfolding obeys tradeHistoryShape
 means-trade-history r = means-limited r tradeHistoryLimits
 
 abbrev pub Lot : Row → Type 0
-Lot r = ((Limited r lotLimits × (r .m1 ≡ 0 → ⊥)) × (natAbs (toZ w64 (r .m1)) ≤ sharesMost)) × (Symbol (r .symbol))
+Lot r = ((Limited r lotLimits × (r .m1 ≡ 0 → ⊥)) × (natAbs (toZ w64 (r .m1)) ≤ sharesMost)) × Spelt (r .symbol)
 
 pub means-lot : (r : Row) → Means (lot r) (Lot r)
-unfolding lot
+unfolding obeys lotShape
 means-lot r =
     means-and
     (means-and
@@ -126,10 +132,10 @@ means-lot r =
     (means-symbol (r .symbol))
 
 abbrev pub Summary : Row → Type 0
-Summary r = (Limited r summaryLimits × (r .m1 ≡ 0 → ⊥)) × (Symbol (r .symbol))
+Summary r = (Limited r summaryLimits × (r .m1 ≡ 0 → ⊥)) × Spelt (r .symbol)
 
 pub means-summary : (r : Row) → Means (summary r) (Summary r)
-unfolding summary
+unfolding obeys summaryShape
 means-summary r = means-and (means-and (means-limited r summaryLimits) (means-ne (r .m1) 0)) (means-symbol (r .symbol))
 
 abbrev pub LotHistory : Row → Type 0
@@ -137,7 +143,7 @@ LotHistory r = ((Limited r lotHistoryLimits × (r .n1 ≡ r .n2 → ⊥)) × (na
     × (natAbs (toZ w32 (r .n2)) ≤ sharesMost)
 
 pub means-lot-history : (r : Row) → Means (lotHistory r) (LotHistory r)
-unfolding lotHistory
+unfolding obeys lotHistoryShape
 means-lot-history r =
     means-and
     (means-and
@@ -149,22 +155,22 @@ abbrev pub Settlement : Row → Type 0
 Settlement r = Limited r settlementLimits × (natAbs (toZ w64 (r .m1)) ≤ moneyMost)
 
 pub means-settlement : (r : Row) → Means (settlement r) (Settlement r)
-unfolding settlement
+unfolding obeys settlementShape
 means-settlement r = means-and (means-limited r settlementLimits) (means-near w64 (r .m1) moneyMost)
 
 abbrev pub Cash : Row → Type 0
 Cash r = Limited r cashLimits × (natAbs (toZ w64 (r .m1)) ≤ moneyMost)
 
 pub means-cash : (r : Row) → Means (cash r) (Cash r)
-unfolding cash
+unfolding obeys cashShape
 means-cash r = means-and (means-limited r cashLimits) (means-near w64 (r .m1) moneyMost)
 
 abbrev pub OrderInput : Row → Type 0
 OrderInput r = (Limited r orderInputLimits × (((r .n2 ≡ 0 → r .form ≤ tms) × (r .form ≤ tms → r .n2 ≡ 0))))
-    × (Symbol (r .symbol))
+    × Spelt (r .symbol)
 
 pub means-order-input : (r : Row) → Means (orderInput r) (OrderInput r)
-unfolding orderInput
+unfolding obeys orderInputShape
 means-order-input r =
     means-and
     (means-and (means-limited r orderInputLimits) (means-iff (means-eq (r .n2) 0) (means-le (r .form) tms)))
@@ -174,21 +180,21 @@ abbrev pub ResultInput : Row → Type 0
 ResultInput r = Limited r resultInputLimits
 
 pub means-result-input : (r : Row) → Means (resultInput r) (ResultInput r)
-unfolding resultInput
+unfolding obeys resultInputShape
 means-result-input r = means-limited r resultInputLimits
 
 abbrev pub FeedInput : Row → Type 0
-FeedInput r = Limited r feedInputLimits × (Symbol (r .symbol))
+FeedInput r = Limited r feedInputLimits × Spelt (r .symbol)
 
 pub means-feed-input : (r : Row) → Means (feedInput r) (FeedInput r)
-unfolding feedInput
+unfolding obeys feedInputShape
 means-feed-input r = means-and (means-limited r feedInputLimits) (means-symbol (r .symbol))
 
 abbrev pub LookupInput : Row → Type 0
 LookupInput r = Limited r lookupInputLimits
 
 pub means-lookup-input : (r : Row) → Means (lookupInput r) (LookupInput r)
-unfolding lookupInput
+unfolding obeys lookupInputShape
 means-lookup-input r = means-limited r lookupInputLimits
 
 -- ---- the rule of a row's own kind

@@ -4,10 +4,11 @@
 use mathlib.Core.Path.{_≡_, refl}
 use mathlib.Core.Bool.{Bool, true, _&&_}
 use mathlib.Core.List.{List, [], _∷_}
-use Prim.Native.Nat.{ℕ, _≤_}
+use Prim.Native.Nat.{ℕ, _+_, _≤_}
 use lib.ListN.{replicate, set}
 use lib.Dec.{leb}
 use Rattle.laws.specs.Tests.{Means, means-le, means-and, and-left, and-right}
+use Rattle.record.specs.Symbol.{symbolNumber}
 use Rattle.record.specs.declared.row.Row.{Row}
 use Rattle.kinds.specs.declared.limits.Limits.{Limits}
 
@@ -48,8 +49,15 @@ sharesMost = 999_999
 abbrev pub shares : Range
 shares = 1 ⋯ sharesMost
 
+abbrev timeMost : ℕ
+timeMost = 4_000_000_000
+
 abbrev pub time : Range
-time = 0 ⋯ 4_000_000_000
+time = 0 ⋯ timeMost
+
+-- "Due time is time + 172,800."
+abbrev pub settlementSeconds : ℕ
+settlementSeconds = 172_800
 
 abbrev pub tradeType : Range
 tradeType = 1 ⋯ 5
@@ -80,12 +88,19 @@ commissionTotal = 0 ⋯ 999_999_999_999_999
 abbrev pub volume : Range
 volume = 0 ⋯ 999_999_999_999
 
--- hundred-thousandths, of a tax; hundredths of a percent, of a commission
+-- the whole of which a tax rate and a commission rate are parts, and what is divided by: hundred-thousandths, and
+-- hundredths of a percent
+abbrev pub taxWhole : ℕ
+taxWhole = 100_000
+
+abbrev pub commissionWhole : ℕ
+commissionWhole = 10_000
+
 abbrev pub taxPart : Range
-taxPart = 0 ⋯ 100_000
+taxPart = 0 ⋯ taxWhole
 
 abbrev pub commissionPart : Range
-commissionPart = 0 ⋯ 10_000
+commissionPart = 0 ⋯ commissionWhole
 
 abbrev pub taxStatus : Range
 taxStatus = 0 ⋯ 2
@@ -101,7 +116,7 @@ abbrev pub orderFlags : Range
 orderFlags = 0 ⋯ 7
 
 abbrev pub dueTime : Range
-dueTime = 0 ⋯ 4_000_172_800
+dueTime = 0 ⋯ (timeMost + settlementSeconds)
 
 -- a balance, a settlement and a cash row's amount, either way from zero
 abbrev pub moneyMost : ℕ
@@ -110,7 +125,8 @@ moneyMost = 999_999_999_999_999
 -- ---- a row's fields by their order in the grid
 abbrev pub values : Row → List ℕ
 values r =
-    r .kind ∷ r .form ∷ r .status ∷ r .flags ∷ r .party ∷ r .id ∷ r .symbol ∷ r .n1 ∷ r .n2 ∷ r .n3 ∷ r .n4 ∷ r .m1
+    r .kind ∷ r .form ∷ r .status ∷ r .flags ∷ r .party ∷ r .id ∷ symbolNumber (r .symbol) ∷ r .n1 ∷ r .n2 ∷ r .n3
+    ∷ r .n4 ∷ r .m1
     ∷ r .m2
     ∷ r .time ∷ r .n5 ∷ []
 

@@ -1,4 +1,5 @@
-// What the rules of the grid are made of: a row's fields against their limits, signed bounds and symbols. The table
-// of the kinds is in specs/Rules.antt.
+// What is read off the table of the kinds: whether a row obeys a rule, and a row's key. The table is in
+// specs/Rules.antt and, in code, the constants `RULE` and `KEY` of each kind.
+pub mod key;
 pub mod limited;
-pub mod symbol;
+pub mod obey;

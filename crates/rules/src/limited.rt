@@ -17,7 +17,7 @@ pub fn in_limits(r: Row, l: Limits) -> bool
         & ((l.flags.0 <= r.flags) & (r.flags <= l.flags.1))
         & ((l.party.0 <= r.party) & (r.party <= l.party.1))
         & ((l.id.0 <= r.id) & (r.id <= l.id.1))
-        & ((l.symbol.0 <= r.symbol) & (r.symbol <= l.symbol.1))
+        & ((l.symbol.0 <= r.symbol.0) & (r.symbol.0 <= l.symbol.1))
         & ((l.n1.0 <= r.n1) & (r.n1 <= l.n1.1))
         & ((l.n2.0 <= r.n2) & (r.n2 <= l.n2.1))
         & ((l.n3.0 <= r.n3) & (r.n3 <= l.n3.1))

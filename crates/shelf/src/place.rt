@@ -1,9 +1,13 @@
 // The row at a place.
 ghost use mathlib.Core.Path.{_≡_};
-ghost use Rattle.model.specs.Rows.{nothing};
+ghost use Prim.Native.Nat.{_<_};
+ghost use lib.ListN.{length};
+ghost use Rattle.record.specs.Grid.{decode};
+ghost use Rattle.model.specs.Rows.{nothing, places, recordSize};
 ghost use Rattle.shelf.specs.Rows.{rowAt};
 use record::row::Grid;
 use record::row::Row;
+use record::symbol::Symbol;
 
 // The row of a free record.
 pub fn nothing() -> Row
@@ -16,7 +20,7 @@ pub fn nothing() -> Row
         flags: 0,
         party: 0,
         id: 0,
-        symbol: 0,
+        symbol: Symbol::NONE,
         n1: 0,
         n2: 0,
         n3: 0,
@@ -28,13 +32,21 @@ pub fn nothing() -> Row
     }
 }
 
+// The bytes of the record at a place.
+pub fn part(book: &[u8], i: usize) -> &[u8]
+    requires { ⌜ i < places (now book) ⌝ }
+    ensures { λ r. ⌜ (length (now r) ≡ recordSize) × (decode (now r) ≡ rowAt (now (book .entry)) i) ⌝ }
+{
+    let a = i * Grid::SIZE;
+    let e = a + Grid::SIZE;
+    &book[a..e]
+}
+
 pub fn row_at(book: &[u8], i: usize) -> Row
     ensures { λ r. ⌜ r ≡ rowAt (now (book .entry)) i ⌝ }
 {
     if i < book.len() / Grid::SIZE {
-        let a = i * Grid::SIZE;
-        let e = a + Grid::SIZE;
-        return Row::read(&book[a..e]);
+        return Row::read(part(book, i));
     }
     nothing()
 }

@@ -8,9 +8,9 @@ ghost use Rattle.model.specs.Rows.{hasKey, is, rows};
 ghost use Rattle.shelf.specs.Rows.{freeFrom};
 use crate::place;
 use record::codes::Kind;
-use record::key::Key;
 use record::row::Grid;
 use record::row::Row;
+use rules::key::Key;
 
 // The row has the key.
 pub fn named(key: Key, row: Row) -> bool

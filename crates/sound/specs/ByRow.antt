@@ -2,7 +2,6 @@
 use mathlib.Core.Path.{_≡_, refl, sym, _∙_}
 use mathlib.Core.Bool.{Bool, true, false, not, _&&_}
 use mathlib.Core.List.{List, [], _∷_}
-use borrow.Author.Tests.{ne-eqb}
 use Rattle.laws.specs.Search.{every}
 use Rattle.laws.specs.Tests.{and-true}
 use Rattle.record.specs.Codes.{kindBand, kindCash, kindCustomer, kindLot, kindLotHistory, kindSettlement}
@@ -59,22 +58,6 @@ module _ (rs : List Row) (r : Row) where
   unfolding kindRight
   of-lot-history e h = rw e h
 
-  pub of-other : (r .kind ≡ kindCustomer → ⊥) → (r .kind ≡ kindBand → ⊥) → (r .kind ≡ kindTrade → ⊥)
-      → (r .kind ≡ kindLot → ⊥) → (r .kind ≡ kindSummary → ⊥) → (r .kind ≡ kindLotHistory → ⊥)
-      → (r .kind ≡ kindSettlement → ⊥) → (r .kind ≡ kindCash → ⊥) → true ≡ kindRight rs r
-  unfolding kindRight
-  of-other c b t l s h m p =
-      rw (
-        ne-eqb (r .kind) kindCustomer c,
-        ne-eqb (r .kind) kindBand b,
-        ne-eqb (r .kind) kindTrade t,
-        ne-eqb (r .kind) kindLot l,
-        ne-eqb (r .kind) kindSummary s,
-        ne-eqb (r .kind) kindLotHistory h,
-        ne-eqb (r .kind) kindSettlement m,
-        ne-eqb (r .kind) kindCash p,
-      )
-
 shuffle : (a b c d : Bool) → (a && b && (c && d)) ≡ (a && c && (b && d))
 shuffle true true c d = refl
 shuffle true false true d = refl
@@ -113,7 +96,7 @@ rows-right rs =
     (split bcqhlp (each kindLotHistory (tradesDone rs)) rs (split bcqhl p rs (split bcqh l rs (split bcq h rs
     (split bc q rs (split b c rs refl refl) refl) refl) refl) refl) refl)
 
-sound-by-row : (rs : List Row) → (s1 rs && s2 rs && every (rowRight rs) rs) ≡ sound rs
+pub sound-by-row : (rs : List Row) → (s1 rs && s2 rs && every (rowRight rs) rs) ≡ sound rs
 unfolding sound
 sound-by-row rs = go (s1 rs) (s2 rs) (s3 rs) refl refl refl
   where
@@ -137,14 +120,3 @@ rule-kept {x} h e = sym h ∙ kept x e
 
 pub rule-lost : {x t : Bool} → x ≡ t → not x ≡ true → t ≡ false
 rule-lost {x} h e = sym h ∙ lost x e
-
-module _ (rs : List Row) where
-  pub unfit : {x : Bool} → x ≡ s1 rs → not x ≡ true → false ≡ sound rs
-  unfit h e = rw (rule-lost h e) at (sound-by-row rs)
-
-  pub repeated : {x y : Bool} → x ≡ s1 rs → not x ≡ false → y ≡ s2 rs → not y ≡ true → false ≡ sound rs
-  repeated h e k f = rw (rule-kept h e, rule-lost k f) at (sound-by-row rs)
-
-  pub by-rows : {x y z : Bool} → x ≡ s1 rs → not x ≡ false → y ≡ s2 rs → not y ≡ false → z ≡ every (rowRight rs) rs
-      → z ≡ sound rs
-  by-rows h e k f g = g ∙ rw (rule-kept h e, rule-kept k f) at (sound-by-row rs)

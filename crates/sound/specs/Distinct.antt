@@ -1,26 +1,27 @@
--- S2 from the last row to the first: no key stands again after its row. Assumes nothing.
+-- S2 by places: no key stands again after its row. Assumes nothing.
 use mathlib.Core.Path.{_≡_, refl, sym, ap, _∙_}
-use mathlib.Core.Bool.{Bool, true, false, not, _&&_, _||_}
+use mathlib.Core.Bool.{Bool, true, false, not, _&&_, _||_, false≢true}
 use mathlib.Core.List.{List, [], _∷_, List·Memᴰ, List·Memᴰ·head, List·Memᴰ·tail, List·Memᴰ·not-nil}
 use Prim.Native.Nat.{ℕ, zero, suc, _+_, _-_, _/_, _≤_, _<_}
 use native.Mathlib.Nat.{add-suc, add-zero}
+use native.Mathlib.Numerals.{add-one}
 use native.Mathlib.Omega.{arith}
 use lib.Dec.{eqb, leb, ltb}
 use lib.ListN.{length, drop, length-drop}
-use borrow.Author.Tests.{eqb-true, eq-eqb, ne-eqb, le-leb, lt-leb, ltb-true, ltb-false}
+use borrow.Author.Tests.{eqb-true, eqb-false, eq-eqb, ne-eqb, le-leb, lt-leb, leb-true, leb-false, ltb-true, ltb-false}
 use Rattle.laws.specs.Search.{count, every, means-every, place, seek, total}
 use Rattle.laws.specs.Tests.{and-both, and-left, and-right, one-truth, or-either, or-else}
-use Rattle.laws.specs.Walk.{left-next, left-none}
-use Rattle.laws.specs.Place.{seek-suc, some-place}
+use Rattle.laws.specs.Walk.{from, from-clear, from-holds, from-low, left-next, left-none}
 use Rattle.record.specs.Codes.{kindFree}
-use Rattle.record.specs.Key.{keyOf}
-use Rattle.record.specs.KeyLaws.{key-itself, same-keys}
-use Rattle.record.specs.declared.key.Key.{Key}
+use Rattle.rules.specs.Key.{keyOf}
+use Rattle.rules.specs.KeyLaws.{key-itself, same-keys}
+use Rattle.rules.specs.declared.key.Key.{Key}
 use Rattle.record.specs.declared.row.Row.{Row}
 use Rattle.model.specs.Rows.{hasKey, is, nothing, rows}
 use Rattle.model.specs.Sound.{alone, s2}
 use Rattle.facts.specs.Rows.{length-rows}
 use Rattle.shelf.specs.Rows.{rowAt}
+use Rattle.laws.specs.Place.{seek-suc, some-place}
 
 -- the key of a row stands nowhere in a list
 abbrev nowhere : Row → List Row → Bool
@@ -128,37 +129,40 @@ distinct-is rs =
     one-truth (distinct rs) (every (alone rs) rs) (λ e. m .holds (all-alone rs e))
     (λ e. all-distinct rs (m .shows e))
 
--- ---- the loop: from place i on, no key stands again
-pub record Apart (b : List ℕ) (w : Bool) (i : ℕ) : Type 0 where
-  pub within : i ≤ length b / 64
-  pub same : distinct (drop i (rows b)) ≡ w
-
+-- ---- by places
 -- the key of the row at i stands nowhere after it
 abbrev pub lastAt : List ℕ → ℕ → Bool
 lastAt b i = nowhere (rowAt b i) (drop (i + 1) (rows b))
 
-pub apart-start : (b : List ℕ) → Apart b (s2 (rows b)) 0
-apart-start b = record { within = omega arith; same = distinct-is (rows b) }
-
-module _ {b : List ℕ} {w : Bool} {i : ℕ} (s : Apart b w i) where
-  unfolded : i < length b / 64 → distinct (drop i (rows b)) ≡ (lastAt b i && distinct (drop (i + 1) (rows b)))
+module _ (b : List ℕ) where
+  unfolded : (i : ℕ) → i < length b / 64
+      → distinct (drop i (rows b)) ≡ (lastAt b i && distinct (drop (i + 1) (rows b)))
   unfolding distinct
-  unfolded h = rw (left-next (rows b) i nothing (rw length-rows h))
+  unfolded i h = rw (left-next (rows b) i nothing (rw length-rows h))
 
-  pub apart-not : {x : Bool} → i < length b / 64 → x ≡ lastAt b i → x ≡ false → false ≡ w
-  apart-not h e f =
-      let l : distinct (drop i (rows b)) ≡ false = unfolded h ∙ rw (sym e ∙ f) in
-      sym l ∙ s .same
+  distinct-from : (i : ℕ) → i ≤ length b / 64 → distinct (rows b) ≡ true → distinct (drop i (rows b)) ≡ true
+  distinct-from zero h e = e
+  distinct-from (suc i) h e =
+      let l = distinct-from i (omega arith) e in
+      rw (← add-one i)
+      (and-right (lastAt b i) (distinct (drop (i + 1) (rows b))) (sym (unfolded i (omega arith)) ∙ l))
 
-  pub apart-more : {x : Bool} → i < length b / 64 → x ≡ lastAt b i → x ≡ true → Apart b w (i + 1)
-  apart-more h e t =
-      let l : distinct (drop i (rows b)) ≡ distinct (drop (i + 1) (rows b)) = unfolded h ∙ rw (sym e ∙ t) in
-      record { within = omega arith; same = sym l ∙ s .same }
-
-  pub apart-all : length b / 64 ≤ i → true ≡ w
+  distinct-to : (k i : ℕ) → i + k ≡ length b / 64 → ((j : ℕ) → j < length b / 64 → lastAt b j ≡ true)
+      → distinct (drop i (rows b)) ≡ true
   unfolding distinct
-  apart-all h =
-      let l : distinct (drop i (rows b)) ≡ true = rw (left-none (rows b) i (rw length-rows h)) in sym l ∙ s .same
+  distinct-to zero i e h = rw (left-none (rows b) i (rw length-rows (omega arith)))
+  distinct-to (suc k) i e h =
+      unfolded i (omega arith)
+      ∙ and-both (lastAt b i) (distinct (drop (i + 1) (rows b))) (h i (omega arith))
+      (distinct-to k (i + 1) (omega arith) h)
+
+  pub unique-last : s2 (rows b) ≡ true → (i : ℕ) → i < length b / 64 → lastAt b i ≡ true
+  unique-last e i h =
+      and-left (lastAt b i) (distinct (drop (i + 1) (rows b)))
+      (sym (unfolded i h) ∙ distinct-from i (omega arith) (distinct-is (rows b) ∙ e))
+
+  pub last-unique : ((j : ℕ) → j < length b / 64 → lastAt b j ≡ true) → s2 (rows b) ≡ true
+  last-unique h = sym (distinct-is (rows b)) ∙ distinct-to (length b / 64) 0 (omega arith) h
 
 -- a search that comes to the end finds none
 seek-shift : {A : Type 0} (p : A → Bool) (j : ℕ) (l : List A) → seek p j l ≡ place p l + j
@@ -190,4 +194,36 @@ last-kept b i {r} {x} h e f g =
     let none = past (length b / 64) x (place p m) (i + 1) (length m) there many (omega arith) in
     rw (← e, ne-eqb (r .kind) kindFree f) (none ∙ rw (none-left (count p m), some-place p m))
 
-pub ruleset aparts = (apart-start, apart-not, apart-more, apart-all)
+module _ (b : List ℕ) (i : ℕ) (inside : i < length b / 64) where
+  -- no row after it has the key
+  pub last-none : (rowAt b i .kind ≡ kindFree → ⊥) → lastAt b i ≡ true → (j : ℕ) → i < j → j < length b / 64
+      → hasKey (keyOf (rowAt b i)) (rowAt b j) ≡ false
+  last-none f e j a h =
+      let k = hasKey (keyOf (rowAt b i)) in
+      let x = from k (rows b) (i + 1) in
+      let past = leb-true (length b / 64) x (last-kept b i inside refl f refl ∙ e) in
+      from-clear k nothing (rows b) (i + 1) j (omega arith) (omega arith) (rw length-rows h)
+
+  pub none-last : ((j : ℕ) → i < j → j < length b / 64 → hasKey (keyOf (rowAt b i)) (rowAt b j) ≡ false)
+      → lastAt b i ≡ true
+  none-last n = go (eqb (rowAt b i .kind) kindFree) refl
+    where
+      k : Row → Bool
+      k = hasKey (keyOf (rowAt b i))
+
+      x : ℕ
+      x = from k (rows b) (i + 1)
+
+      over : (t : Bool) → leb (length b / 64) x ≡ t → leb (length b / 64) x ≡ true
+      over true e = e
+      over false e =
+          let h = leb-false (length b / 64) x e in
+          let low = from-low k (rows b) (i + 1) in
+          let has = from-holds k (rows b) (i + 1) nothing (rw length-rows h) in
+          absurd (false≢true (sym (n x (omega arith) h) ∙ has))
+
+      go : (t : Bool) → eqb (rowAt b i .kind) kindFree ≡ t → lastAt b i ≡ true
+      go true e = sym (last-free b i refl (eqb-true (rowAt b i .kind) kindFree e))
+      go false e =
+          sym (last-kept b i inside refl (eqb-false (rowAt b i .kind) kindFree e) refl)
+          ∙ over (leb (length b / 64) x) refl

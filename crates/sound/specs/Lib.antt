@@ -1,7 +1,14 @@
+pub mod Says
 pub mod Distinct
 pub mod Once
 pub mod OneSide
 pub mod ByRow
 pub mod Rules
 pub mod RowRules
+pub mod Hung
+pub mod Well
+pub mod Slots
+pub mod Chains
+pub mod Kinds
+pub mod Turn
 pub mod Status

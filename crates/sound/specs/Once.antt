@@ -13,9 +13,9 @@ use Rattle.laws.specs.Search.{bit, count, place, the, total}
 use Rattle.laws.specs.Tests.{or-else}
 use Rattle.laws.specs.Walk.{from-holds}
 use Rattle.record.specs.Codes.{completed, kindFree}
-use Rattle.record.specs.Key.{keyOf}
-use Rattle.record.specs.KeyLaws.{same-keys}
-use Rattle.record.specs.declared.key.Key.{Key}
+use Rattle.rules.specs.Key.{keyOf}
+use Rattle.rules.specs.KeyLaws.{same-keys}
+use Rattle.rules.specs.declared.key.Key.{Key}
 use Rattle.record.specs.declared.row.Row.{Row}
 use Rattle.model.specs.Rows.{found, hasKey, is, nothing, there}
 use Rattle.model.specs.Sound.{alone, s2}
@@ -32,7 +32,7 @@ found-key : (k : Key) (rs : List Row) → there k rs ≡ true → keyOf (found k
 unfolding hasKey
 found-key k rs e = same-keys (keyOf (found k rs)) k (found-has k rs e)
 
-found-none : (k : Key) (rs : List Row) → there k rs ≡ false → found k rs ≡ nothing
+pub found-none : (k : Key) (rs : List Row) → there k rs ≡ false → found k rs ≡ nothing
 unfolding there found
 found-none k rs e =
     let h = ltb-false (place (hasKey k) rs) (length rs) (sym (some-place (hasKey k) rs) ∙ e) in
@@ -104,7 +104,7 @@ module _ {A : Type 0} (p x : A → Bool) (d : A) where
           rw u (omega arith)
       go false u ih = let z : 0 + count p l ≡ 1 = rw u at e in let y = ih (omega arith) in rw u (zero-add _ ∙ y)
 
-one-bit : (b : Bool) → eqb (bit b) 1 ≡ b
+pub one-bit : (b : Bool) → eqb (bit b) 1 ≡ b
 one-bit true = refl
 one-bit false = refl
 

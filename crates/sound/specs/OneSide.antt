@@ -21,7 +21,9 @@ use Rattle.laws.specs.Tests.{or-swap}
 use Rattle.laws.specs.Walk.{from-holds}
 use Rattle.record.specs.Codes.{completed, kindLot, kindSummary}
 use Rattle.record.specs.Signed.{up, dn, toZ-high}
+use Rattle.record.specs.Symbol.{same-symbol, sameSymbol, symbol-same}
 use Rattle.record.specs.declared.row.Row.{Row}
+use Rattle.record.specs.declared.symbol.Symbol.{Symbol}
 use Rattle.rules.specs.Meaning.{means-lot}
 use Rattle.rules.specs.Rules.{as-kind, fits}
 use Rattle.model.specs.Names.{aSummary, aTrade}
@@ -74,7 +76,7 @@ not-zero x n e = go (leb 9223372036854775808 x) refl
 lot-shares : (l r : Row) → fits r ≡ true → lotOf (l .party) (l .symbol) r ≡ true → r .m1 ≡ 0 → ⊥
 lot-shares l r f h =
     let k = eqb-true (r .kind) kindLot (and-left (is kindLot r) (eqb (r .party) (l .party))
-    (and-left (is kindLot r && eqb (r .party) (l .party)) (eqb (r .symbol) (l .symbol)) h))
+    (and-left (is kindLot r && eqb (r .party) (l .party)) (sameSymbol (r .symbol) (l .symbol)) h))
     in
     means-lot r .shows (as-kind kindLot r k ∙ f) .0 .0 .1
 
@@ -121,7 +123,7 @@ one-sign rs l u = go (short l) refl
 abbrev tradeAgrees : List Row → Row → Bool
 tradeAgrees rs l =
     eqb (found (aTrade (l .id)) rs .status) completed && eqb (found (aTrade (l .id)) rs .party) (l .party)
-    && eqb (found (aTrade (l .id)) rs .symbol) (l .symbol)
+    && sameSymbol (found (aTrade (l .id)) rs .symbol) (l .symbol)
 
 abbrev pub lotKept : List Row → Row → Bool
 lotKept rs l = tradeAgrees rs l && there (aSummary (l .party) (l .symbol)) rs
@@ -129,7 +131,7 @@ lotKept rs l = tradeAgrees rs l && there (aSummary (l .party) (l .symbol)) rs
 abbrev equalShares : List Row → Row → Bool
 equalShares rs s = equalZ (sumZ (sharesOf (s .party) (s .symbol)) rs) (toZ w64 (s .m1))
 
-abbrev oneSided : List Row → ℕ → ℕ → Bool
+abbrev oneSided : List Row → ℕ → Symbol → Bool
 oneSided rs account symbol =
     eqb (total (sharesPart false account symbol) rs) 0 || eqb (total (sharesPart true account symbol) rs) 0
 
@@ -170,7 +172,7 @@ module _ (rs : List Row) (fit : s1 rs ≡ true) where
   own-side l m k s e = member-total (across (not s) l) rs l m (go s e)
     where
       me : lotOf (l .party) (l .symbol) l ≡ true
-      me = and-both _ _ (and-both _ _ k (eq-eqb (l .party) (l .party) refl)) (eq-eqb (l .symbol) (l .symbol) refl)
+      me = and-both _ _ (and-both _ _ k (eq-eqb (l .party) (l .party) refl)) (symbol-same (l .symbol) (l .symbol) refl)
 
       nz : toZ w64 (l .m1) ≡ pos 0 → ⊥
       nz = not-zero (l .m1) (lot-shares l l (all-fit l m) me)
@@ -249,11 +251,11 @@ module _ (rs : List Row) (fit : s1 rs ≡ true) where
           let some = and-left (leb 1 (count q rs)) (equalShares rs r) h in
           let l = getD rs (place q rs) nothing in
           let mine = passes-at q some in
-          let kp = and-left (is kindLot l && eqb (l .party) (r .party)) (eqb (l .symbol) (r .symbol)) mine in
+          let kp = and-left (is kindLot l && eqb (l .party) (r .party)) (sameSymbol (l .symbol) (r .symbol)) mine in
           let k = and-left (is kindLot l) (eqb (l .party) (r .party)) kp in
           let p = eqb-true (l .party) (r .party) (and-right (is kindLot l) (eqb (l .party) (r .party)) kp) in
-          let y = eqb-true (l .symbol) (r .symbol)
-          (and-right (is kindLot l && eqb (l .party) (r .party)) (eqb (l .symbol) (r .symbol)) mine)
+          let y = same-symbol (l .symbol) (r .symbol)
+          (and-right (is kindLot l && eqb (l .party) (r .party)) (sameSymbol (l .symbol) (r .symbol)) mine)
           in
           let rule = and-left (each kindLot (lotRight rs) l) (each kindSummary (summaryRight rs) l)
           (rule-at (holdingRight rs) q all some)
@@ -287,11 +289,11 @@ module _ (rs : List Row) (fit : s1 rs ≡ true) where
           let some = and-right (tradeAgrees rs r) (leb 1 (count q rs)) h in
           let s = getD rs (place q rs) nothing in
           let mine = sym (by-holder (r .party) (r .symbol) s) ∙ passes-at q some in
-          let kp = and-left (is kindSummary s && eqb (s .party) (r .party)) (eqb (s .symbol) (r .symbol)) mine in
+          let kp = and-left (is kindSummary s && eqb (s .party) (r .party)) (sameSymbol (s .symbol) (r .symbol)) mine in
           let ks = and-left (is kindSummary s) (eqb (s .party) (r .party)) kp in
           let p = eqb-true (s .party) (r .party) (and-right (is kindSummary s) (eqb (s .party) (r .party)) kp) in
-          let y = eqb-true (s .symbol) (r .symbol)
-          (and-right (is kindSummary s && eqb (s .party) (r .party)) (eqb (s .symbol) (r .symbol)) mine)
+          let y = same-symbol (s .symbol) (r .symbol)
+          (and-right (is kindSummary s && eqb (s .party) (r .party)) (sameSymbol (s .symbol) (r .symbol)) mine)
           in
           let rule = and-right (each kindLot (lotKept rs) s) (each kindSummary (summaryKept rs) s)
           (rule-at (holdingKept rs) q all some)

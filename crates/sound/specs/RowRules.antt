@@ -4,16 +4,15 @@ use mathlib.Core.Path.{_≡_, refl, sym, _∙_}
 use mathlib.Core.Bool.{Bool, true, _&&_}
 use mathlib.Core.List.{List}
 use lib.Dec.{eqb}
-use Rattle.laws.specs.Tests.{and-assoc, and-both, and-left, and-right, and-true, one-truth}
-use Rattle.record.specs.Codes.{completed, kindLot, kindLotHistory, kindSettlement}
+use Rattle.laws.specs.Tests.{and-both, and-left, and-right, and-true, one-truth}
+use Rattle.record.specs.Codes.{completed, kindLotHistory}
 use Rattle.record.specs.declared.row.Row.{Row}
-use Rattle.model.specs.Names.{aSecurity, aSummary, aTrade, anAccount, named}
+use Rattle.model.specs.Names.{aTrade, named}
 use Rattle.model.specs.Rows.{found, there}
-use Rattle.model.specs.Sound.{namesKnown, settlementRight, tradesDone}
-use Rattle.sound.specs.ByRow.{kindRight, of-lot, of-lot-history, of-settlement, rowRight}
+use Rattle.model.specs.Sound.{namesKnown, tradesDone}
+use Rattle.sound.specs.ByRow.{kindRight, of-lot-history, rowRight}
 use Rattle.sound.specs.Once.{done-there}
-use Rattle.sound.specs.OneSide.{lotKept}
-use Rattle.sound.specs.Rules.{names-one, names-three, names-two}
+use Rattle.sound.specs.Rules.{names-two}
 
 -- a test that a later one implies
 implied : (t z : Bool) → (z ≡ true → t ≡ true) → z ≡ (t && z)
@@ -32,24 +31,6 @@ module _ (rs : List Row) (r : Row) where
   unfolding rowRight
   row-kind h k = k ∙ rw (← h)
 
-  pub lot-row : {x y z : Bool} → r .kind ≡ kindLot → x ≡ there (anAccount (r .party)) rs
-      → y ≡ there (aSecurity (r .symbol)) rs → z ≡ lotKept rs r → (x && y && z) ≡ rowRight rs r
-  unfolding rowRight named
-  lot-row {x} {y} {z} e h k l =
-      let t = there (aTrade (r .id)) rs in
-      let s = eqb (found (aTrade (r .id)) rs .status) completed in
-      let p = eqb (found (aTrade (r .id)) rs .party) (r .party) in
-      let q = eqb (found (aTrade (r .id)) rs .symbol) (r .symbol) in
-      let i : (x && y && z) ≡ true → t ≡ true =
-      λ u. done-there (aTrade (r .id)) rs
-      (and-left s p (and-left (s && p) q (and-left (s && p && q) (there (aSummary (r .party) (r .symbol)) rs)
-      (sym l ∙ and-right (x && y) z u))))
-      in
-      let n : (t && x && y) ≡ namesKnown rs r =
-      names-three rs r (aTrade (r .id)) (anAccount (r .party)) (aSecurity (r .symbol)) (rw e) refl h k
-      in
-      implied t (x && y && z) i ∙ and-assoc t (x && y) z ∙ rw (and-assoc t x y, n, of-lot rs r e l)
-
   pub lot-history-row : {z : Bool} → r .kind ≡ kindLotHistory → z ≡ tradesDone rs r → z ≡ rowRight rs r
   unfolding rowRight named
   lot-history-row {z} e l =
@@ -64,9 +45,3 @@ module _ (rs : List Row) (r : Row) where
       (done-there (aTrade (r .m2)) rs (and-right s q (sym l ∙ u)))
       in
       implied (namesKnown rs r) z i ∙ rw (of-lot-history rs r e l)
-
-  pub settlement-row : {x : Bool} → r .kind ≡ kindSettlement
-      → x ≡ (there (aTrade (r .id)) rs && settlementRight rs r) → x ≡ rowRight rs r
-  unfolding rowRight named
-  settlement-row e h =
-      h ∙ rw (names-one rs r (aTrade (r .id)) (rw e) refl, of-settlement rs r e refl)

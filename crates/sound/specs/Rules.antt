@@ -1,29 +1,30 @@
 -- Each rule as the code decides it: by what is found, where the definition counts. Assumes nothing.
 use mathlib.Core.Path.{_≡_, refl, sym, ap, _∙_}
-use mathlib.Core.Bool.{Bool, true, false, not, _&&_, _||_}
+use mathlib.Core.Bool.{Bool, true, false, _&&_, _||_}
 use mathlib.Core.List.{List, [], _∷_}
-use Prim.Native.Nat.{ℕ, _+_, _%_, _≤_}
+use Prim.Native.Nat.{ℕ, _+_, _%_}
 use native.Mathlib.Omega.{arith}
 use lib.Dec.{eqb, leb}
 use lib.IntN.{ℤ}
-use lib.ListN.{List·getD-eq-default}
 use mir.Syntax.{w64}
 use mir.Val.{toZ}
 use borrow.Author.Tests.{eq-eqb, eqb-true, eqb-false, leb-true, leb-false, ne-eqb}
 use Rattle.laws.specs.Search.{bit, count, every, sumZ, total}
-use Rattle.laws.specs.Tests.{_⇔_, and-assoc, and-true}
-use Rattle.record.specs.Codes.{completed, kindRequest, kindTrade, pending, tlb}
+use Rattle.laws.specs.Tests.{and-assoc, and-true}
+use Rattle.record.specs.Codes.{completed}
 use Rattle.record.specs.Signed.{up, dn, parts-add, leZ-is}
-use Rattle.record.specs.declared.key.Key.{Key}
+use Rattle.record.specs.Symbol.{sameSymbol}
+use Rattle.rules.specs.declared.key.Key.{Key}
 use Rattle.record.specs.declared.row.Row.{Row}
-use Rattle.model.specs.Names.{aCash, aRequest, aSettlement, aTrade, anAccount, named, names}
+use Rattle.record.specs.declared.symbol.Symbol.{Symbol}
+use Rattle.model.specs.Flags.{cash}
+use Rattle.model.specs.Names.{aRequest, anAccount, named}
 use Rattle.model.specs.Rows.{found, hasKey, is, there}
-use Rattle.model.specs.Sound.{agrees, equalZ, lotOf, namesKnown, requestRight, s2, settled}
-use Rattle.model.specs.Sound.{settlementRight, sharesOf}
+use Rattle.model.specs.Sound.{agrees, equalZ, lotOf, namesKnown, s2}
+use Rattle.model.specs.Sound.{sharesOf}
 use Rattle.tables.specs.Sums.{sharesPart, side}
-use Rattle.sound.specs.Distinct.{none-left}
 use Rattle.sound.specs.OneSide.{summaryKept}
-use Rattle.sound.specs.Once.{found-kind, once, once-and}
+use Rattle.sound.specs.Once.{once-and}
 
 -- ---- S3
 module _ (rs : List Row) (r : Row) where
@@ -46,19 +47,14 @@ module _ (rs : List Row) (r : Row) where
   names-three a b c e h k l =
       rw e (rw (h, k, l, and-true (there c rs)) (sym (and-assoc (there a rs) (there b rs) (there c rs))))
 
--- a kind that there is not names no row
-pub no-names : (r : Row) → 17 ≤ r .kind → named r ≡ []
-unfolding named
-no-names r h = ap (λ (f : Row → List Key). f r) (List·getD-eq-default names (λ (s : Row). []) h)
-
 -- ---- S6
 -- what a request must agree in, beside its number
 abbrev pub agreesWith : ℕ → Row → Row → Bool
 agreesWith broker t r =
-    eqb (r .form) (t .form) && eqb (r .symbol) (t .symbol) && eqb (r .n1) (t .n1) && eqb (r .n2) (t .n2)
+    eqb (r .form) (t .form) && sameSymbol (r .symbol) (t .symbol) && eqb (r .n1) (t .n1) && eqb (r .n2) (t .n2)
     && eqb (r .party) broker
 
-abbrev asAsked : List Row → Row → Row → Bool
+abbrev pub asAsked : List Row → Row → Row → Bool
 asAsked rs t r = agreesWith (found (anAccount (t .party)) rs .n1) t r
 
 and-six : (a b c d e f : Bool) → (a && (b && c && d && e && f)) ≡ (a && b && c && d && e && f)
@@ -66,34 +62,19 @@ and-six true b c d e f = refl
 and-six false b c d e f = refl
 
 module _ (rs : List Row) (unique : s2 rs ≡ true) (t : Row) where
-  agrees-is : eqb (count (agrees rs t) rs) 1
+  pub agrees-is : eqb (count (agrees rs t) rs) 1
       ≡ (there (aRequest (t .id)) rs && asAsked rs t (found (aRequest (t .id)) rs))
   agrees-is =
       let k = aRequest (t .id) in
       let e : (r : Row) → agrees rs t r ≡ (hasKey k r && asAsked rs t r) =
-      λ r. sym (and-six (hasKey k r) (eqb (r .form) (t .form)) (eqb (r .symbol) (t .symbol)) (eqb (r .n1) (t .n1))
+      λ r. sym (and-six (hasKey k r) (eqb (r .form) (t .form)) (sameSymbol (r .symbol) (t .symbol)) (eqb (r .n1) (t .n1))
       (eqb (r .n2) (t .n2)) (eqb (r .party) (found (anAccount (t .party)) rs .n1)))
       in
       let c : count (agrees rs t) rs ≡ count (λ r. hasKey k r && asAsked rs t r) rs = λ j. count (λ r. e r j) rs in
       ap (λ (n : ℕ). eqb n 1) c ∙ once-and rs unique k (λ q. omega arith) (asAsked rs t)
 
-  -- a pending trade: of the right type, and its request is there and agrees
-  pub request-pending : {q a : Row} {x : Bool} → t .status ≡ pending → q ≡ found (aRequest (t .id)) rs
-      → a ≡ found (anAccount (t .party)) rs → x ≡ agreesWith (a .n1) t q
-      → (leb tlb (t .form) && is kindRequest q && x) ≡ requestRight rs t
-  request-pending e h k g =
-      let z = found-kind (aRequest (t .id)) rs (λ q. omega arith) in
-      rw (e, g, h, k, agrees-is, z)
-      (sym (and-assoc (leb tlb (t .form)) (there (aRequest (t .id)) rs) (asAsked rs t (found (aRequest (t .id)) rs))))
-
-  pub request-none : {x : Bool} → (t .status ≡ pending → ⊥) → x ≡ there (aRequest (t .id)) rs
-      → not x ≡ requestRight rs t
-  unfolding there
-  request-none n h =
-      rw (ne-eqb (t .status) pending n) (ap not h ∙ sym (none-left (count (hasKey (aRequest (t .id))) rs)))
-
 -- ---- S8: the shares held and those owed, apart
-sides : (account symbol : ℕ) (l : List Row)
+sides : (account : ℕ) (symbol : Symbol) (l : List Row)
     → up (sumZ (sharesOf account symbol) l) + total (sharesPart true account symbol) l
     ≡ dn (sumZ (sharesOf account symbol) l) + total (sharesPart false account symbol) l
 unfolding sumZ total
@@ -106,7 +87,7 @@ sides account symbol (r ∷ l) =
     let d = side-dn account symbol r in
     omega arith
   where
-    side-up : (account symbol : ℕ) (r : Row) → sharesPart false account symbol r ≡ up (sharesOf account symbol r)
+    side-up : (account : ℕ) (symbol : Symbol) (r : Row) → sharesPart false account symbol r ≡ up (sharesOf account symbol r)
     side-up account symbol r = go (lotOf account symbol r) refl
       where
         go : (t : Bool) → lotOf account symbol r ≡ t
@@ -114,7 +95,7 @@ sides account symbol (r ∷ l) =
         go true e = rw e
         go false e = rw e
 
-    side-dn : (account symbol : ℕ) (r : Row) → sharesPart true account symbol r ≡ dn (sharesOf account symbol r)
+    side-dn : (account : ℕ) (symbol : Symbol) (r : Row) → sharesPart true account symbol r ≡ dn (sharesOf account symbol r)
     side-dn account symbol r = go (lotOf account symbol r) refl
       where
         go : (t : Bool) → lotOf account symbol r ≡ t → sharesPart true account symbol r ≡ dn (sharesOf account symbol r)
@@ -157,12 +138,6 @@ summary-is rs s {many} {long} {owed} {x} {y} h l o ex ey =
     rw (← h, equal-parts total-shares z, q, ← l, ← o)
 
 -- ---- S9
-two-bits : (a b : Bool) → (a ⇔ b) ≡ eqb (bit a) (bit b)
-two-bits true true = refl
-two-bits true false = refl
-two-bits false true = refl
-two-bits false false = refl
-
 low-bit : (f : ℕ) → f % 2 ≡ bit (eqb (f % 2) 1)
 low-bit f = go (eqb (f % 2) 1) refl
   where
@@ -170,24 +145,8 @@ low-bit f = go (eqb (f % 2) 1) refl
     go true e = rw e (eqb-true (f % 2) 1 e)
     go false e = let n = eqb-false (f % 2) 1 e in rw e (let m : (f % 2 ≡ 1 → ⊥) = n in omega arith)
 
-module _ (rs : List Row) (unique : s2 rs ≡ true) where
-  pub settled-is : (t : Row) {x : Bool} → x ≡ there (aSettlement (t .id)) rs
-      → (x ⇔ eqb (t .status) completed) ≡ settled rs t
-  settled-is t h =
-      rw (h, once rs unique (aSettlement (t .id)) (λ q. omega arith))
-      (two-bits (there (aSettlement (t .id)) rs) (eqb (t .status) completed))
-
-  pub settlement-is : (s : Row) {t : Row} {x : Bool} {y : ℕ} → t ≡ found (aTrade (s .id)) rs
-      → x ≡ there (aCash (s .id)) rs → y ≡ bit x
-      → (eqb (s .flags) (t .flags % 2) && eqb y (s .flags)) ≡ settlementRight rs s
-  settlement-is s {t} h k e =
-      rw (← h, once rs unique (aCash (s .id)) (λ q. omega arith), ← k, ← e, ← low-bit (t .flags))
-
-  -- and the trade is there
-  pub settlement-there : (s : Row) {t : Row} {x : Bool} {y : ℕ} → t ≡ found (aTrade (s .id)) rs
-      → x ≡ there (aCash (s .id)) rs → y ≡ bit x
-      → (is kindTrade t && (eqb (s .flags) (t .flags % 2) && eqb y (s .flags)))
-      ≡ (there (aTrade (s .id)) rs && settlementRight rs s)
-  settlement-there s {t} h k e =
-      let z : is kindTrade t ≡ there (aTrade (s .id)) rs = rw h (found-kind (aTrade (s .id)) rs (λ q. omega arith)) in
-      rw (z, settlement-is s h k e)
+-- a settlement has its trade's cash flag
+pub settles-is : (t s : Row)
+    → (eqb (t .status) completed && eqb (s .flags) (t .flags % 2))
+    ≡ (eqb (t .status) completed && eqb (s .flags) (bit (cash (t .flags))))
+settles-is t s = ap (λ (x : ℕ). eqb (t .status) completed && eqb (s .flags) x) (low-bit (t .flags))

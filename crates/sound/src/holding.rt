@@ -2,13 +2,13 @@
 // one account and symbol have one sign is told at the summary.
 ghost use mathlib.Core.Path.{_≡_};
 ghost use mathlib.Core.Bool.{true};
-ghost use Rattle.model.specs.Rows.{rows};
+ghost use Rattle.model.specs.Names.{aTrade};
+ghost use Rattle.model.specs.Rows.{found, rows};
 ghost use Rattle.model.specs.Sound.{bandApart, ratesFit, s1};
 ghost use Rattle.sound.specs.OneSide.{lotKept, summaryKept};
 ghost use Rattle.tables.specs.Bucket.{keyBucket, steadyBucket};
 ghost use Rattle.tables.specs.Table.{Indexed};
 use kinds::limits::Ranges;
-use record::codes::Kind;
 use record::codes::TradeStatus;
 use record::row::Row;
 use tables::sums::holding;
@@ -16,7 +16,6 @@ use tables::sums::overlapping;
 use tables::sums::rates;
 use tables::sums::side;
 use tables::table::Slots;
-use tables::table::id_row;
 use tables::table::summary_there;
 
 pub fn apart(book: &[u8], keys: &[u16; Slots::ALL], r: Row) -> bool
@@ -33,14 +32,16 @@ pub fn rates_fit(book: &[u8], keys: &[u16; Slots::ALL], r: Row) -> bool
     rates(book, keys, r.party) <= Ranges::RATE_MOST as u64
 }
 
-pub fn held(book: &[u8], keys: &[u16; Slots::ALL], l: Row) -> bool
+pub fn held(book: &[u8], keys: &[u16; Slots::ALL], t: Row, l: Row) -> bool
     requires { ⌜ Indexed keyBucket (now book) (now keys) 0 ⌝ }
+    requires { ⌜ t ≡ found (aTrade (l .id)) (rows (now book)) ⌝ }
     ensures { λ b. ⌜ b ≡ lotKept (rows (now (book .entry))) l ⌝ }
 {
-    let t = id_row(book, keys, Kind::TRADE, l.id);
+    let symbol = t.symbol;
+    let own = l.symbol;
     (t.status == TradeStatus::COMPLETED)
         & (t.party == l.party)
-        & (t.symbol == l.symbol)
+        & symbol.same(own)
         & summary_there(book, keys, l.party, l.symbol)
 }
 

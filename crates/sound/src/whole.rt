@@ -1,39 +1,31 @@
-// The whole of a book: S1 of every row, S2, then S3 to S10 of every row; and its status.
+// The whole of a book, kind by kind; and its status.
 ghost use mathlib.Core.Path.{_≡_};
-ghost use mathlib.Core.Bool.{true};
-ghost use Prim.Native.Nat.{_/_, _≤_};
+ghost use Prim.Native.Nat.{_*_, _/_, _≤_};
 ghost use lib.ListN.{length};
-ghost use Rattle.laws.specs.Search.{every};
-ghost use Rattle.record.specs.Codes.{kindTrade};
+ghost use Rattle.record.specs.Codes.{kindSummary};
 ghost use Rattle.model.specs.Rows.{mostRecords, rows, wholeRecords};
-ghost use Rattle.model.specs.Sound.{s1, s2, sound};
+ghost use Rattle.model.specs.Sound.{sound};
 ghost use Rattle.model.specs.Tally.{bookStatus};
 ghost use Rattle.tables.specs.Bucket.{keyBucket, steadyBucket};
 ghost use Rattle.tables.specs.Table.{Indexed};
-ghost use Rattle.sound.specs.ByRow.{kindRight, rowRight};
-use crate::holding::apart;
-use crate::holding::held;
-use crate::holding::rates_fit;
-use crate::holding::summed;
-use crate::trade::done;
-use crate::trade::due;
-use crate::trade::paid;
-use crate::trade::requested;
-use crate::trade::settled;
-use crate::unique::unique;
-use fields::row_fits;
+ghost use Rattle.sound.specs.Chains.{ByKind};
+ghost use Rattle.sound.specs.Kinds.{WellBut, WellTo};
+ghost use Rattle.sound.specs.Says.{Says};
+ghost use Rattle.sound.specs.Slots.{MarkedTo, allPast};
+use crate::chain::Links;
+use crate::chain::chain;
+use crate::hang::Marks;
+use crate::hang::hang;
+use crate::hang::hung;
+use crate::own::fit;
+use crate::own::own;
+use crate::own::standing;
 use model::Status;
 use record::codes::Kind;
 use record::row::Grid;
-use record::row::Row;
-use shelf::place::row_at;
-use tables::sums::historied;
 use tables::table::Slots;
 use tables::table::build;
-use tables::table::id_there;
 use tables::table::narrow;
-use tables::table::party_there;
-use tables::table::security_there;
 
 // The most records of a book, and of an input.
 pub struct Most {}
@@ -44,98 +36,62 @@ impl Most {
     pub const INPUTS: usize = 20;
 }
 
-fn all_fit(book: &[u8]) -> bool
-    ensures { λ r. ⌜ r ≡ s1 (rows (now (book .entry))) ⌝ }
-{
-    let n = book.len() / Grid::SIZE;
-    let mut i = 0;
-    while i < n {
-        if row_fits(row_at(book, i)) {
-            i += 1;
-        } else {
-            return false;
-        }
-    }
-    true
-}
-
-fn trade_right(book: &[u8], keys: &[u16; Slots::ALL], t: Row) -> bool
-    requires { ⌜ Indexed keyBucket (now book) (now keys) 0 ⌝ }
-    requires { ⌜ (s2 (rows (now book)) ≡ true) × (t .kind ≡ kindTrade) ⌝ }
-    ensures { λ b. ⌜ b ≡ kindRight (rows (now (book .entry))) t ⌝ }
-{
-    requested(book, keys, t) & historied(book, keys, t.id, t.status) & settled(book, keys, t)
-}
-
-// S3 to S10 of a row. What a rule tells is not looked for again: lots and lot histories are of trades that are
-// completed, so these are in the book.
-fn right(book: &[u8], keys: &[u16; Slots::ALL], steady: &[u16; Slots::ALL], r: Row) -> bool
+// The kinds that hang on a trade, and between them the lot histories.
+fn hanging(
+    book: &[u8],
+    keys: &[u16; Slots::ALL],
+    steady: &[u16; Slots::ALL],
+    kinds: &[u16; Links::ALL],
+    marks: &mut [u8; Marks::ALL],
+) -> bool
     requires { ⌜ Indexed keyBucket (now book) (now keys) 0 ⌝ }
     requires { ⌜ Indexed steadyBucket (now book) (now steady) 0 ⌝ }
-    requires { ⌜ (s1 (rows (now book)) ≡ true) × (s2 (rows (now book)) ≡ true) ⌝ }
-    ensures { λ b. ⌜ b ≡ rowRight (rows (now (book .entry))) r ⌝ }
+    requires { ⌜ ByKind (now book) (now kinds) 0 ⌝ }
+    requires { ⌜ WellTo (now book) 10 ⌝ }
+    requires { ⌜ MarkedTo (now book) (10 * 4096) (now marks) ⌝ }
+    ensures { λ r.
+        let b = now (book .entry) in
+        ⌜ Says r (WellBut b kindSummary × MarkedTo b allPast (now (marks .exit))) (sound (rows b)) ⌝ }
 {
-    let kind = r.kind;
-    match kind {
-        Kind::FREE => true,
-        Kind::BROKER => true,
-        Kind::CUSTOMER => rates_fit(book, keys, r),
-        Kind::TAX_RATE => true,
-        Kind::CUSTOMER_RATE => {
-            party_there(book, keys, Kind::CUSTOMER, r.party)
-                & party_there(book, keys, Kind::TAX_RATE, r.n1)
-        }
-        Kind::ACCOUNT => {
-            party_there(book, keys, Kind::BROKER, r.n1)
-                & party_there(book, keys, Kind::CUSTOMER, r.n2)
-        }
-        Kind::SECURITY => true,
-        Kind::BAND => apart(book, keys, r),
-        Kind::CHARGE => true,
-        Kind::TRADE => {
-            party_there(book, keys, Kind::ACCOUNT, r.party)
-                & security_there(book, steady, r.symbol)
-                & trade_right(book, keys, r)
-        }
-        Kind::REQUEST => {
-            id_there(book, keys, Kind::TRADE, r.id)
-                & party_there(book, keys, Kind::BROKER, r.party)
-                & security_there(book, steady, r.symbol)
-        }
-        Kind::TRADE_HISTORY => id_there(book, keys, Kind::TRADE, r.id),
-        Kind::LOT => {
-            party_there(book, keys, Kind::ACCOUNT, r.party)
-                & security_there(book, steady, r.symbol)
-                & held(book, keys, r)
-        }
-        Kind::SUMMARY => {
-            party_there(book, keys, Kind::ACCOUNT, r.party)
-                & security_there(book, steady, r.symbol)
-                & summed(book, steady, r)
-        }
-        Kind::LOT_HISTORY => done(book, keys, r),
-        Kind::SETTLEMENT => paid(book, keys, r),
-        Kind::CASH => id_there(book, keys, Kind::TRADE, r.id) & due(book, keys, r),
-        _ => true,
+    if !hang(book, keys, kinds, marks, Kind::REQUEST) {
+        return false;
     }
+    if !hang(book, keys, kinds, marks, Kind::TRADE_HISTORY) {
+        return false;
+    }
+    if !hang(book, keys, kinds, marks, Kind::LOT) {
+        return false;
+    }
+    if !own(book, keys, steady, kinds, Kind::LOT_HISTORY) {
+        return false;
+    }
+    if !hang(book, keys, kinds, marks, Kind::SETTLEMENT) {
+        return false;
+    }
+    hang(book, keys, kinds, marks, Kind::CASH)
 }
 
-fn all_right(book: &[u8], keys: &[u16; Slots::ALL], steady: &[u16; Slots::ALL]) -> bool
+// The summaries, whose sums go by S1 of all rows, and then each trade by its marks.
+fn closing(
+    book: &[u8],
+    keys: &[u16; Slots::ALL],
+    steady: &[u16; Slots::ALL],
+    kinds: &[u16; Links::ALL],
+    marks: &[u8; Marks::ALL],
+) -> bool
     requires { ⌜ Indexed keyBucket (now book) (now keys) 0 ⌝ }
     requires { ⌜ Indexed steadyBucket (now book) (now steady) 0 ⌝ }
-    requires { ⌜ (s1 (rows (now book)) ≡ true) × (s2 (rows (now book)) ≡ true) ⌝ }
-    ensures { λ r. ⌜ r ≡ every (rowRight (rows (now (book .entry)))) (rows (now (book .entry))) ⌝ }
+    requires { ⌜ ByKind (now book) (now kinds) 0 ⌝ }
+    requires { ⌜ WellBut (now book) kindSummary × MarkedTo (now book) allPast (now marks) ⌝ }
+    ensures { λ r. ⌜ r ≡ sound (rows (now (book .entry))) ⌝ }
 {
-    let n = book.len() / Grid::SIZE;
-    let mut i = 0;
-    while i < n {
-        if right(book, keys, steady, row_at(book, i)) {
-            i += 1;
-        } else {
-            return false;
-        }
+    if !fit(book, kinds, Kind::SUMMARY) {
+        return false;
     }
-    true
+    if !own(book, keys, steady, kinds, Kind::SUMMARY) {
+        return false;
+    }
+    hung(book, kinds, marks)
 }
 
 // The book is sound, by its tables.
@@ -144,13 +100,19 @@ pub fn sound_by(book: &[u8], keys: &[u16; Slots::ALL], steady: &[u16; Slots::ALL
     requires { ⌜ Indexed steadyBucket (now book) (now steady) 0 ⌝ }
     ensures { λ r. ⌜ r ≡ sound (rows (now (book .entry))) ⌝ }
 {
-    if !all_fit(book) {
+    let none = narrow(book.len() / Grid::SIZE);
+    let mut kinds = [none; Links::ALL];
+    if !chain(book, &mut kinds) {
         return false;
     }
-    if !unique(book, keys) {
+    if !standing(book, keys, steady, &kinds) {
         return false;
     }
-    all_right(book, keys, steady)
+    let mut marks = [0; Marks::ALL];
+    if !hanging(book, keys, steady, &kinds, &mut marks) {
+        return false;
+    }
+    closing(book, keys, steady, &kinds, &marks)
 }
 
 fn sound(book: &[u8]) -> bool

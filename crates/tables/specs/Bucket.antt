@@ -7,9 +7,11 @@ use Prim.Native.Nat.{ℕ, _+_, _*_, _/_, _%_}
 use lib.Dec.{eqb}
 use borrow.Author.Tests.{ne-eqb}
 use Rattle.record.specs.Codes.{kindFree, kindLot, kindSecurity, kindTrade}
-use Rattle.record.specs.Key.{among, keyOf}
-use Rattle.record.specs.declared.key.Key.{Key}
+use Rattle.rules.specs.Key.{among, keyOf}
+use Rattle.record.specs.Symbol.{noSymbol, symbolNumber}
+use Rattle.rules.specs.declared.key.Key.{Key}
 use Rattle.record.specs.declared.row.Row.{Row}
+use Rattle.record.specs.declared.symbol.Symbol.{Symbol}
 use Rattle.model.specs.Rows.{is}
 
 -- the number of buckets; the last is that of the rows that a table does not list
@@ -19,11 +21,11 @@ headCount = 4_097
 unfoldable pub spread : ℕ → ℕ
 spread id = id % 4_294_967_296 * 287_203_101 + id / 4_294_967_296 * 201_023_173
 
-unfoldable pub bucketOf : ℕ → ℕ → ℕ → ℕ → ℕ → ℕ → ℕ
+unfoldable pub bucketOf : ℕ → ℕ → ℕ → ℕ → ℕ → Symbol → ℕ
 bucketOf kind form flags party id symbol =
     cond (eqb kind kindFree) 4_096
     (((kind + form * 256 + flags * 65_536) * 442_130_567 + party * 277_607_845 + spread id
-    + (symbol / 4_294_967_296 + symbol % 4_294_967_296) * 168_287_865) % 4_294_967_296 / 1_048_576)
+    + (symbolNumber symbol / 4_294_967_296 + symbolNumber symbol % 4_294_967_296) * 168_287_865) % 4_294_967_296 / 1_048_576)
 
 abbrev pub bucketOfKey : Key → ℕ
 bucketOfKey k = bucketOf (k .kind) (k .form) (k .flags) (k .party) (k .id) (k .symbol)
@@ -35,16 +37,17 @@ keyBucket r = bucketOfKey (keyOf r)
 unfoldable pub steadyBucket : Row → ℕ
 steadyBucket r =
     cond (is kindLot r) (bucketOf kindLot 0 0 (r .party) 0 (r .symbol))
-    (cond (is kindTrade r) (bucketOf kindTrade 0 0 0 (r .id) 0)
+    (cond (is kindTrade r) (bucketOf kindTrade 0 0 0 (r .id) noSymbol)
     (cond (is kindSecurity r) (bucketOf kindSecurity 0 0 0 0 (r .symbol)) 4_096))
 
-pub no-bucket : {k : ℕ} (f g p i s : ℕ) → k ≡ 0 → 4_096 ≡ bucketOf k f g p i s
+pub no-bucket : {k : ℕ} (f g p i : ℕ) (s : Symbol) → k ≡ 0 → 4_096 ≡ bucketOf k f g p i s
 unfolding bucketOf
 no-bucket f g p i s e = rw e
 
-pub a-bucket : {k f g p a b c d e : ℕ} (i s : ℕ) → (k ≡ 0 → ⊥) → a ≡ k → b ≡ f → c ≡ g → d ≡ p → e ≡ spread i
+pub a-bucket : {k f g p a b c d e : ℕ} (i : ℕ) (s : Symbol) → (k ≡ 0 → ⊥) → a ≡ k → b ≡ f → c ≡ g → d ≡ p
+    → e ≡ spread i
     → (((a + b * 256 + c * 65_536) * 442_130_567 + d * 277_607_845 + e
-    + (s / 4_294_967_296 + s % 4_294_967_296) * 168_287_865) % 4_294_967_296 / 1_048_576)
+    + (symbolNumber s / 4_294_967_296 + symbolNumber s % 4_294_967_296) * 168_287_865) % 4_294_967_296 / 1_048_576)
     ≡ bucketOf k f g p i s
 unfolding bucketOf
 a-bucket {k} i s n ea eb ec ed ee = rw (ea, eb, ec, ed, ee, ne-eqb k 0 n)
@@ -54,7 +57,7 @@ module _ (r : Row) where
   unfolding steadyBucket
   of-lot e h = h ∙ rw e
 
-  pub of-trade : {x : ℕ} → r .kind ≡ kindTrade → x ≡ bucketOf kindTrade 0 0 0 (r .id) 0 → x ≡ steadyBucket r
+  pub of-trade : {x : ℕ} → r .kind ≡ kindTrade → x ≡ bucketOf kindTrade 0 0 0 (r .id) noSymbol → x ≡ steadyBucket r
   unfolding steadyBucket
   of-trade e h = h ∙ rw e
 
@@ -89,7 +92,7 @@ steady-none r {k} e n = rw e (go (eqb k kindLot) (eqb k kindTrade) (eqb k kindSe
   where
     go : (l t s : Bool) → eqb k kindLot ≡ l → eqb k kindTrade ≡ t → eqb k kindSecurity ≡ s
         → cond (eqb k kindLot) (bucketOf kindLot 0 0 (r .party) 0 (r .symbol))
-        (cond (eqb k kindTrade) (bucketOf kindTrade 0 0 0 (r .id) 0)
+        (cond (eqb k kindTrade) (bucketOf kindTrade 0 0 0 (r .id) noSymbol)
         (cond (eqb k kindSecurity) (bucketOf kindSecurity 0 0 0 0 (r .symbol)) 4_096)) ≡ 4_096
     go false false false a b c = rw (a, b, c)
     go true t s a b c = absurd (false≢true (sym (rw a at n)))

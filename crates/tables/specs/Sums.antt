@@ -16,9 +16,11 @@ use Rattle.laws.specs.Search.{bit, count, total}
 use Rattle.laws.specs.Tests.{and-left, and-right}
 use Rattle.laws.specs.Place.{every-at}
 use Rattle.record.specs.Codes.{kindBand, kindCustomerRate, kindLot, kindTradeHistory}
-use Rattle.record.specs.Key.{keyOf}
+use Rattle.rules.specs.Key.{keyOf}
 use Rattle.record.specs.Signed.{up, dn, toZ-high}
+use Rattle.record.specs.Symbol.{noSymbol, sameSymbol}
 use Rattle.record.specs.declared.row.Row.{Row}
+use Rattle.record.specs.declared.symbol.Symbol.{Symbol}
 use Rattle.rules.specs.Meaning.{means-lot}
 use Rattle.rules.specs.Ranges.{sharesMost}
 use Rattle.rules.specs.Rules.{as-kind, fits}
@@ -42,7 +44,7 @@ only-keyed g p f m k a z = record { none = λ r e. go r e (p r) refl }
     go r e false q = z r q
 
 -- ---- bands
-band-bucket : (a r : Row) → overlaps a r ≡ true → keyBucket r ≡ bucketOf kindBand (a .form) (a .flags) 0 0 0
+band-bucket : (a r : Row) → overlaps a r ≡ true → keyBucket r ≡ bucketOf kindBand (a .form) (a .flags) 0 0 noSymbol
 unfolding keyBucket keyOf
 band-bucket a r e =
     let h = band-tests (is kindBand r) (eqb (a .form) (r .form)) (eqb (a .status) (r .status))
@@ -55,14 +57,14 @@ band-bucket a r e =
     )
 
 pub bands-counted : (a : Row)
-    → Counted keyBucket (λ r. bit (overlaps a r)) 1 (bucketOf kindBand (a .form) (a .flags) 0 0 0)
+    → Counted keyBucket (λ r. bit (overlaps a r)) 1 (bucketOf kindBand (a .form) (a .flags) 0 0 noSymbol)
 bands-counted a =
-    only-keyed keyBucket (overlaps a) (λ r. bit (overlaps a r)) 1 (bucketOf kindBand (a .form) (a .flags) 0 0 0)
+    only-keyed keyBucket (overlaps a) (λ r. bit (overlaps a r)) 1 (bucketOf kindBand (a .form) (a .flags) 0 0 noSymbol)
     (record { all = band-bucket a }) (λ r q. rw q)
 
 -- ---- rates
 rate-bucket : (customer : ℕ) (r : Row) → ofParty kindCustomerRate customer r ≡ true
-    → keyBucket r ≡ bucketOf kindCustomerRate 0 0 customer 0 0
+    → keyBucket r ≡ bucketOf kindCustomerRate 0 0 customer 0 noSymbol
 unfolding keyBucket keyOf
 rate-bucket customer r e =
     let k = is kindCustomerRate r in
@@ -70,10 +72,10 @@ rate-bucket customer r e =
     rw (eqb-true (r .kind) kindCustomerRate (and-left k p e), eqb-true (r .party) customer (and-right k p e))
 
 pub rates-counted : (rs : List Row) (customer : ℕ)
-    → Counted keyBucket (rateOf rs customer) 4294967295 (bucketOf kindCustomerRate 0 0 customer 0 0)
+    → Counted keyBucket (rateOf rs customer) 4294967295 (bucketOf kindCustomerRate 0 0 customer 0 noSymbol)
 rates-counted rs customer =
     only-keyed keyBucket (ofParty kindCustomerRate customer) (rateOf rs customer) 4294967295
-    (bucketOf kindCustomerRate 0 0 customer 0 0) (record { all = rate-bucket customer }) (λ r q. rw q)
+    (bucketOf kindCustomerRate 0 0 customer 0 noSymbol) (record { all = rate-bucket customer }) (λ r q. rw q)
 
 pub rate-yes : (rs : List Row) (customer : ℕ) (r : Row) {x : ℕ} {t : Row} → ofParty kindCustomerRate customer r ≡ true
     → t ≡ found (aTaxRate (r .n1)) rs → x ≡ t .n1 → x ≡ rateOf rs customer r
@@ -89,14 +91,14 @@ abbrev pub side : Bool → ℕ → ℕ
 side true x = dn (toZ w64 x)
 side false x = up (toZ w64 x)
 
-abbrev pub sharesPart : Bool → ℕ → ℕ → Row → ℕ
+abbrev pub sharesPart : Bool → ℕ → Symbol → Row → ℕ
 sharesPart owed account symbol r = cond (lotOf account symbol r) (side owed (r .m1)) 0
 
 -- x is the sum over a book's rows, which are few
-abbrev pub HoldsSide : Bool → ℕ → ℕ → List Row → ℕ → Type 0
+abbrev pub HoldsSide : Bool → ℕ → Symbol → List Row → ℕ → Type 0
 HoldsSide owed account symbol rs x = (x ≡ total (sharesPart owed account symbol) rs) × (x ≤ sharesMost * mostRecords)
 
-pub shares-counted : (owed : Bool) (account symbol : ℕ)
+pub shares-counted : (owed : Bool) (account : ℕ) (symbol : Symbol)
     → Counted steadyBucket (sharesPart owed account symbol) sharesMost (bucketOf kindLot 0 0 account 0 symbol)
 shares-counted owed account symbol =
     only-keyed steadyBucket (lotOf account symbol) (sharesPart owed account symbol) sharesMost
@@ -127,22 +129,22 @@ lot-most : (r : Row) → r .kind ≡ kindLot → fits r ≡ true → natAbs (toZ
 lot-most r k e = means-lot r .shows (as-kind kindLot r k ∙ e) .0 .1
 
 -- a lot's part in a holding of its account and symbol, and in any other
-pub part-yes : (owed : Bool) (account symbol : ℕ) (r : Row) {t : Bool} {x : ℕ} → fits r ≡ true
+pub part-yes : (owed : Bool) (account : ℕ) (symbol : Symbol) (r : Row) {t : Bool} {x : ℕ} → fits r ≡ true
     → t ≡ lotOf account symbol r → t ≡ true → x ≡ side owed (r .m1)
     → (x ≡ sharesPart owed account symbol r) × (x ≤ sharesMost)
 part-yes owed account symbol r f h e q =
     let yes = sym h ∙ e in
     let k = and-left (is kindLot r) (eqb (r .party) account)
-    (and-left (is kindLot r && eqb (r .party) account) (eqb (r .symbol) symbol) yes)
+    (and-left (is kindLot r && eqb (r .party) account) (sameSymbol (r .symbol) symbol) yes)
     in
     let m = side-most owed (r .m1) sharesMost (lot-most r (eqb-true (r .kind) kindLot k) f) in
     (rw yes q, rw q m)
 
-pub part-no : (owed : Bool) (account symbol : ℕ) (r : Row) {t : Bool} → t ≡ lotOf account symbol r → t ≡ false
+pub part-no : (owed : Bool) (account : ℕ) (symbol : Symbol) (r : Row) {t : Bool} → t ≡ lotOf account symbol r → t ≡ false
     → 0 ≡ sharesPart owed account symbol r
 part-no owed account symbol r h e = rw (sym h ∙ e)
 
-pub lots-counted : (account symbol : ℕ)
+pub lots-counted : (account : ℕ) (symbol : Symbol)
     → Counted steadyBucket (λ r. bit (lotOf account symbol r)) 1 (bucketOf kindLot 0 0 account 0 symbol)
 lots-counted account symbol =
     only-keyed steadyBucket (lotOf account symbol) (λ r. bit (lotOf account symbol r)) 1
@@ -158,10 +160,10 @@ abbrev pub historyKept : List Row → ℕ → ℕ → Bool
 historyKept rs id status = there (aHistory id status) rs && eqb (count (higherThan id status) rs) 0
 
 pub history-counted : (id status : ℕ)
-    → Counted keyBucket (λ r. bit (hasKey (aHistory id status) r)) 1 (bucketOf kindTradeHistory 0 0 0 id 0)
+    → Counted keyBucket (λ r. bit (hasKey (aHistory id status) r)) 1 (bucketOf kindTradeHistory 0 0 0 id noSymbol)
 history-counted id status =
     only-keyed keyBucket (hasKey (aHistory id status)) (λ r. bit (hasKey (aHistory id status) r)) 1
-    (bucketOf kindTradeHistory 0 0 0 id 0)
+    (bucketOf kindTradeHistory 0 0 0 id noSymbol)
     (record {
       all = λ r e. history-bucket id r (and-left (ofId kindTradeHistory id r) (eqb (r .status) status)
           (sym (by-status id status r) ∙ e));
@@ -169,10 +171,10 @@ history-counted id status =
     (λ r q. rw q)
 
 pub higher-counted : (id status : ℕ)
-    → Counted keyBucket (λ r. bit (higherThan id status r)) 1 (bucketOf kindTradeHistory 0 0 0 id 0)
+    → Counted keyBucket (λ r. bit (higherThan id status r)) 1 (bucketOf kindTradeHistory 0 0 0 id noSymbol)
 higher-counted id status =
     only-keyed keyBucket (higherThan id status) (λ r. bit (higherThan id status r)) 1
-    (bucketOf kindTradeHistory 0 0 0 id 0)
+    (bucketOf kindTradeHistory 0 0 0 id noSymbol)
     (record { all = λ r e. history-bucket id r (and-left (ofId kindTradeHistory id r) (ltb status (r .status)) e) })
     (λ r q. rw q)
 

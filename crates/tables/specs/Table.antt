@@ -14,9 +14,9 @@ use Rattle.laws.specs.Chain.{Chained, chain-start, chain-more, chain-put, numbe
 use Rattle.laws.specs.Search.{count, place, seek, the, total}
 use Rattle.laws.specs.Walk.{from, from-high, from-holds, from-low, from-passes, from-skips, left-next, left-none}
 use Rattle.laws.specs.Place.{some-place, the-place}
-use Rattle.record.specs.Key.{keyOf}
-use Rattle.record.specs.KeyLaws.{same-keys}
-use Rattle.record.specs.declared.key.Key.{Key}
+use Rattle.rules.specs.Key.{keyOf}
+use Rattle.rules.specs.KeyLaws.{same-keys}
+use Rattle.rules.specs.declared.key.Key.{Key}
 use Rattle.record.specs.declared.row.Row.{Row}
 use Rattle.model.specs.Rows.{found, hasKey, mostRecords, nothing, rows, there}
 use Rattle.facts.specs.Rows.{length-rows}

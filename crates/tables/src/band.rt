@@ -11,6 +11,7 @@ use crate::table::wide;
 use record::codes::Kind;
 use record::row::Grid;
 use record::row::Row;
+use record::symbol::Symbol;
 use shelf::place::row_at;
 
 fn holds(trade: Row, tier: u8, exchange: u8, r: Row) -> bool
@@ -29,7 +30,7 @@ fn band_at(book: &[u8], keys: &[u16; Slots::ALL], trade: Row, tier: u8, exchange
     ensures { λ r. ⌜ r ≡ place (bandFor (trade .form) tier exchange (trade .n1)) (rows (now (book .entry))) ⌝ }
 {
     let n = book.len() / Grid::SIZE;
-    let mut c = wide(keys[bucket(Kind::BAND, trade.form, exchange, 0, 0, 0)]);
+    let mut c = wide(keys[bucket(Kind::BAND, trade.form, exchange, 0, 0, Symbol::NONE)]);
     while c < n {
         if holds(trade, tier, exchange, row_at(book, c)) {
             return c;

@@ -20,6 +20,7 @@ use record::bytes::wide32;
 use record::codes::Kind;
 use record::row::Grid;
 use record::row::Row;
+use record::symbol::Symbol;
 use shelf::count::bit;
 use shelf::place::row_at;
 
@@ -41,7 +42,7 @@ pub fn overlapping(book: &[u8], keys: &[u16; Slots::ALL], band: Row) -> usize
 {
     let n = book.len() / Grid::SIZE;
     let mut sum = 0;
-    let mut c = wide(keys[bucket(Kind::BAND, band.form, band.flags, 0, 0, 0)]);
+    let mut c = wide(keys[bucket(Kind::BAND, band.form, band.flags, 0, 0, Symbol::NONE)]);
     while c < n {
         sum += bit(overlap(band, row_at(book, c)));
         c = wide(keys[Slots::HEADS + c]);
@@ -66,7 +67,7 @@ pub fn rates(book: &[u8], keys: &[u16; Slots::ALL], customer: u32) -> u64
 {
     let n = book.len() / Grid::SIZE;
     let mut sum = 0;
-    let mut c = wide(keys[bucket(Kind::CUSTOMER_RATE, 0, 0, customer, 0, 0)]);
+    let mut c = wide(keys[bucket(Kind::CUSTOMER_RATE, 0, 0, customer, 0, Symbol::NONE)]);
     while c < n {
         sum += rate(book, keys, customer, row_at(book, c));
         c = wide(keys[Slots::HEADS + c]);
@@ -98,7 +99,7 @@ pub struct Held {
 }
 
 // What a row adds to a holding.
-fn part(account: u32, symbol: u64, row: Row) -> Held
+fn part(account: u32, symbol: Symbol, row: Row) -> Held
     requires { ⌜ fits row ≡ true ⌝ }
     ensures { λ r. ⌜ (r .lots ≡ bit (lotOf account symbol row)) × (r .lots ≤ 1) ⌝ }
     ensures { λ r. ⌜ (r .long ≡ sharesPart false account symbol row) × (r .long ≤ sharesMost) ⌝ }
@@ -118,7 +119,7 @@ fn part(account: u32, symbol: u64, row: Row) -> Held
     }
 }
 
-pub fn holding(book: &[u8], steady: &[u16; Slots::ALL], account: u32, symbol: u64) -> Held
+pub fn holding(book: &[u8], steady: &[u16; Slots::ALL], account: u32, symbol: Symbol) -> Held
     requires { ⌜ Indexed steadyBucket (now book) (now steady) 0 ⌝ }
     requires { ⌜ s1 (rows (now book)) ≡ true ⌝ }
     ensures { λ r. ⌜ r .lots ≡ count (lotOf account symbol) (rows (now (book .entry))) ⌝ }
@@ -164,7 +165,7 @@ pub fn historied(book: &[u8], keys: &[u16; Slots::ALL], id: u64, status: u8) -> 
     let n = book.len() / Grid::SIZE;
     let mut present = 0;
     let mut above = 0;
-    let mut c = wide(keys[bucket(Kind::TRADE_HISTORY, 0, 0, 0, id, 0)]);
+    let mut c = wide(keys[bucket(Kind::TRADE_HISTORY, 0, 0, 0, id, Symbol::NONE)]);
     while c < n {
         let row = row_at(book, c);
         present += bit(of_status(id, status, row));

@@ -5,7 +5,7 @@ ghost use mathlib.Core.Bool.{true};
 ghost use Prim.Native.Nat.{_+_, _/_, _<_, _≤_};
 ghost use lib.ListN.{drop, length};
 ghost use Rattle.laws.specs.Search.{place, seek};
-ghost use Rattle.record.specs.Key.{among, keyOf};
+ghost use Rattle.rules.specs.Key.{among, keyOf};
 ghost use Rattle.model.specs.Names.{aSecurity, aSummary, aTrade, byId, byParty};
 ghost use Rattle.model.specs.Rows.{found, hasKey, mostRecords, rows, there};
 ghost use Rattle.facts.specs.Names.{idKinds, partyKinds};
@@ -20,9 +20,10 @@ use crate::test::of_party;
 use crate::test::security;
 use crate::test::summary;
 use record::codes::Kind;
-use record::key::Key;
 use record::row::Grid;
 use record::row::Row;
+use record::symbol::Symbol;
+use rules::key::Key;
 use shelf::place::row_at;
 use shelf::search::named;
 
@@ -78,7 +79,7 @@ pub fn by_id(book: &[u8], keys: &[u16; Slots::ALL], kind: u8, id: u64) -> usize
     ensures { λ r. ⌜ r ≡ place (hasKey (byId kind id)) (rows (now (book .entry))) ⌝ }
 {
     let n = book.len() / Grid::SIZE;
-    let mut c = wide(keys[bucket(kind, 0, 0, 0, id, 0)]);
+    let mut c = wide(keys[bucket(kind, 0, 0, 0, id, Symbol::NONE)]);
     while c < n {
         if of_id(kind, id, row_at(book, c)) {
             return c;
@@ -94,7 +95,7 @@ pub fn by_party(book: &[u8], keys: &[u16; Slots::ALL], kind: u8, party: u32) -> 
     ensures { λ r. ⌜ r ≡ place (hasKey (byParty kind party)) (rows (now (book .entry))) ⌝ }
 {
     let n = book.len() / Grid::SIZE;
-    let mut c = wide(keys[bucket(kind, 0, 0, party, 0, 0)]);
+    let mut c = wide(keys[bucket(kind, 0, 0, party, 0, Symbol::NONE)]);
     while c < n {
         if of_party(kind, party, row_at(book, c)) {
             return c;
@@ -110,7 +111,7 @@ pub fn trade_at(book: &[u8], steady: &[u16; Slots::ALL], id: u64) -> usize
     ensures { λ r. ⌜ r ≡ place (hasKey (aTrade id)) (rows (now (book .entry))) ⌝ }
 {
     let n = book.len() / Grid::SIZE;
-    let mut c = wide(steady[bucket(Kind::TRADE, 0, 0, 0, id, 0)]);
+    let mut c = wide(steady[bucket(Kind::TRADE, 0, 0, 0, id, Symbol::NONE)]);
     while c < n {
         if of_id(Kind::TRADE, id, row_at(book, c)) {
             return c;
@@ -120,7 +121,7 @@ pub fn trade_at(book: &[u8], steady: &[u16; Slots::ALL], id: u64) -> usize
     c
 }
 
-pub fn security_at(book: &[u8], steady: &[u16; Slots::ALL], symbol: u64) -> usize
+pub fn security_at(book: &[u8], steady: &[u16; Slots::ALL], symbol: Symbol) -> usize
     requires { ⌜ Indexed steadyBucket (now book) (now steady) 0 ⌝ }
     ensures { λ r. ⌜ r ≡ place (hasKey (aSecurity symbol)) (rows (now (book .entry))) ⌝ }
 {
@@ -135,7 +136,7 @@ pub fn security_at(book: &[u8], steady: &[u16; Slots::ALL], symbol: u64) -> usiz
     c
 }
 
-pub fn by_holder(book: &[u8], keys: &[u16; Slots::ALL], account: u32, symbol: u64) -> usize
+pub fn by_holder(book: &[u8], keys: &[u16; Slots::ALL], account: u32, symbol: Symbol) -> usize
     requires { ⌜ Indexed keyBucket (now book) (now keys) 0 ⌝ }
     ensures { λ r. ⌜ r ≡ place (hasKey (aSummary account symbol)) (rows (now (book .entry))) ⌝ }
 {
@@ -183,28 +184,28 @@ pub fn party_row(book: &[u8], keys: &[u16; Slots::ALL], kind: u8, party: u32) ->
     row_at(book, by_party(book, keys, kind, party))
 }
 
-pub fn security_there(book: &[u8], steady: &[u16; Slots::ALL], symbol: u64) -> bool
+pub fn security_there(book: &[u8], steady: &[u16; Slots::ALL], symbol: Symbol) -> bool
     requires { ⌜ Indexed steadyBucket (now book) (now steady) 0 ⌝ }
     ensures { λ r. ⌜ r ≡ there (aSecurity symbol) (rows (now (book .entry))) ⌝ }
 {
     security_at(book, steady, symbol) < book.len() / Grid::SIZE
 }
 
-pub fn security_row(book: &[u8], steady: &[u16; Slots::ALL], symbol: u64) -> Row
+pub fn security_row(book: &[u8], steady: &[u16; Slots::ALL], symbol: Symbol) -> Row
     requires { ⌜ Indexed steadyBucket (now book) (now steady) 0 ⌝ }
     ensures { λ r. ⌜ r ≡ found (aSecurity symbol) (rows (now (book .entry))) ⌝ }
 {
     row_at(book, security_at(book, steady, symbol))
 }
 
-pub fn summary_there(book: &[u8], keys: &[u16; Slots::ALL], account: u32, symbol: u64) -> bool
+pub fn summary_there(book: &[u8], keys: &[u16; Slots::ALL], account: u32, symbol: Symbol) -> bool
     requires { ⌜ Indexed keyBucket (now book) (now keys) 0 ⌝ }
     ensures { λ r. ⌜ r ≡ there (aSummary account symbol) (rows (now (book .entry))) ⌝ }
 {
     by_holder(book, keys, account, symbol) < book.len() / Grid::SIZE
 }
 
-pub fn summary_row(book: &[u8], keys: &[u16; Slots::ALL], account: u32, symbol: u64) -> Row
+pub fn summary_row(book: &[u8], keys: &[u16; Slots::ALL], account: u32, symbol: Symbol) -> Row
     requires { ⌜ Indexed keyBucket (now book) (now keys) 0 ⌝ }
     ensures { λ r. ⌜ r ≡ found (aSummary account symbol) (rows (now (book .entry))) ⌝ }
 {

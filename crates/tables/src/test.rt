@@ -1,18 +1,20 @@
 // The tests of a row that the searches make.
 ghost use mathlib.Core.Path.{_≡_};
 ghost use mathlib.Core.Bool.{true};
-ghost use Rattle.record.specs.Key.{among};
+ghost use Rattle.rules.specs.Key.{among};
 ghost use Rattle.model.specs.Names.{aSecurity, aSummary, byId, byParty};
 ghost use Rattle.model.specs.Rows.{hasKey};
 ghost use Rattle.model.specs.Sound.{lotOf};
 ghost use Rattle.facts.specs.Names.{idKinds, partyKinds};
 use record::codes::Kind;
 use record::row::Row;
+use record::symbol::Symbol;
 
-pub fn held(account: u32, symbol: u64, r: Row) -> bool
+pub fn held(account: u32, symbol: Symbol, r: Row) -> bool
     ensures { λ b. ⌜ b ≡ lotOf account symbol r ⌝ }
 {
-    (r.kind == Kind::LOT) & (r.party == account) & (r.symbol == symbol)
+    let own = r.symbol;
+    (r.kind == Kind::LOT) & (r.party == account) & own.same(symbol)
 }
 
 // A trade, request, settlement, cash row or lot by its number.
@@ -31,15 +33,17 @@ pub fn of_party(kind: u8, party: u32, r: Row) -> bool
     (r.kind == kind) & (r.party == party)
 }
 
-pub fn security(symbol: u64, r: Row) -> bool
+pub fn security(symbol: Symbol, r: Row) -> bool
     ensures { λ b. ⌜ b ≡ hasKey (aSecurity symbol) r ⌝ }
 {
-    (r.kind == Kind::SECURITY) & (r.symbol == symbol)
+    let own = r.symbol;
+    (r.kind == Kind::SECURITY) & own.same(symbol)
 }
 
 // The summary of an account and a symbol.
-pub fn summary(account: u32, symbol: u64, r: Row) -> bool
+pub fn summary(account: u32, symbol: Symbol, r: Row) -> bool
     ensures { λ b. ⌜ b ≡ hasKey (aSummary account symbol) r ⌝ }
 {
-    (r.kind == Kind::SUMMARY) & (r.party == account) & (r.symbol == symbol)
+    let own = r.symbol;
+    (r.kind == Kind::SUMMARY) & (r.party == account) & own.same(symbol)
 }

@@ -12,10 +12,12 @@ use Rattle.laws.specs.Search.{count, keep, run}
 use Rattle.laws.specs.Sort.{sort}
 use Rattle.laws.specs.Tests.{_⇔_, and-left, and-right}
 use Rattle.record.specs.Codes.{kindFree, kindLot, kindSummary}
-use Rattle.record.specs.Key.{keyOf}
-use Rattle.record.specs.KeyLaws.{same-keys}
-use Rattle.record.specs.declared.key.Key.{Key}
+use Rattle.rules.specs.Key.{keyOf}
+use Rattle.rules.specs.KeyLaws.{same-keys}
+use Rattle.record.specs.Symbol.{same-symbol, sameSymbol}
+use Rattle.rules.specs.declared.key.Key.{Key}
 use Rattle.record.specs.declared.row.Row.{Row}
+use Rattle.record.specs.declared.symbol.Symbol.{Symbol}
 use Rattle.rules.specs.Ranges.{priceMost}
 use Rattle.model.specs.Lots.{closes, closings, lotsFor, start, walk}
 use Rattle.model.specs.Money.{buys}
@@ -38,7 +40,7 @@ no-member [] h = refl
 no-member (x ∷ l) h = absurd (h x (List·Memᴰ·head refl))
 
 -- what is found where there is a summary is one
-found-summary : (rs : List Row) (a s : ℕ) → There (aSummary a s) rs → found (aSummary a s) rs .kind ≡ kindSummary
+found-summary : (rs : List Row) (a : ℕ) (s : Symbol) → There (aSummary a s) rs → found (aSummary a s) rs .kind ≡ kindSummary
 unfolding there hasKey keyOf
 found-summary rs a s t =
     let k = aSummary a s in
@@ -53,10 +55,10 @@ module _ (rs : List Row) (good : sound rs ≡ true) (t : Row) {q : Row} (h : q �
       let s = t .symbol in
       let k = keep-from (closes (t .form) a s) r rs m in
       let l = and-left (lotOf a s r) (buys (t .form) ⇔ short r) (k .1) in
-      let ka = and-left (is kindLot r && eqb (r .party) a) (eqb (r .symbol) s) l in
+      let ka = and-left (is kindLot r && eqb (r .party) a) (sameSymbol (r .symbol) s) l in
       let lot = eqb-true (r .kind) kindLot (and-left (is kindLot r) (eqb (r .party) a) ka) in
       let pa = eqb-true (r .party) a (and-right (is kindLot r) (eqb (r .party) a) ka) in
-      let sy = eqb-true (r .symbol) s (and-right (is kindLot r && eqb (r .party) a) (eqb (r .symbol) s) l) in
+      let sy = same-symbol (r .symbol) s (and-right (is kindLot r && eqb (r .party) a) (sameSymbol (r .symbol) s) l) in
       let u : There (aSummary (r .party) (r .symbol)) rs = means-sound rs .shows good .s8 r (k .0) .0 lot .1 in
       let z = found-summary rs a s (rw (pa, sy) at u) in
       let f : found (aSummary a s) rs .kind ≡ kindFree = rw h at e in

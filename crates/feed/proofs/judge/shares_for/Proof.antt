@@ -10,10 +10,11 @@ use Rattle.model.specs.Rows.{rows}
 use Rattle.facts.specs.Feed.{sharesFor}
 use Rattle.shelf.specs.Loop.{Summed, loops}
 use Rattle.feed.specs.Judge.{few-inputs}
+use Rattle.record.specs.Symbol.{sameSymbol}
 
 abbrev Inv-loop : tie.InvT-loop
 Inv-loop input symbol n sum₀ i₀ sum i =
-    Summed (λ e. cond (eqb (e .symbol) symbol) (e .n2) 0) 4294967295 input (sharesFor symbol (rows input)) sum i
+    Summed (λ e. cond (sameSymbol (e .symbol) symbol) (e .n2) 0) 4294967295 input (sharesFor symbol (rows input)) sum i
 
 abbrev μ-loop : tie.MeasureT-loop
 μ-loop input symbol n sum₀ i₀ sum i = n - i

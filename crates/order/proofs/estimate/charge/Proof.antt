@@ -1,6 +1,6 @@
 -- The row at its place, which has the key of a row with these fields. Assumes nothing.
 use mathlib.Core.Path.{ap}
-use Rattle.record.specs.Key.{keyOf}
+use Rattle.rules.specs.Key.{keyOf}
 use Rattle.record.specs.declared.row.Row.{Row}
 use Rattle.tables.specs.Table.{key-row}
 use borrow.Author.Needs.{needs}

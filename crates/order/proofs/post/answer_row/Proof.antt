@@ -10,7 +10,7 @@ returns c =
     let tax = c .before .before in
     rw (
       tax .before .before .nothing .ensures,
-      tax .in-symbol .ensures,
+      tax .holding .ensures,
       tax .before .in-cents .ensures,
       c .before .in-cents2 .ensures,
       c .in-cents3 .ensures,

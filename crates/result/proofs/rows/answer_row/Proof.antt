@@ -17,7 +17,7 @@ returns c =
     let settlement = got64 (f .settlement .0) (second .struct-told2 .given .1 .1 .1 .1 .0 .1 .1 .0 .1) in
     rw (
       start .nothing .ensures,
-      tax .in-symbol .ensures,
+      tax .holding .ensures,
       tax .before .in-cents .ensures,
       one .bits64 .ensures,
       c .bits642 .ensures,

@@ -1,13 +1,12 @@
 -- The row of a place is that of the part of the book there, and past the end nothing. Assumes nothing.
-use native.Mathlib.Nat.{add-sub-cancel-left}
 use mathlib.Core.Path.{sym, _∙_}
-use Rattle.shelf.specs.Rows.{rows-at, rows-past}
+use Rattle.shelf.specs.Rows.{rows-past}
 use borrow.Author.Needs.{needs}
 use Rattle.shelf.proofs.place.row_at.Statement.{statement}
 use Rattle.shelf.proofs.place.row_at.Tie as tie
 
 returns : tie.Need-returns
-returns c = c .read .ensures ∙ rw add-sub-cancel-left (sym (rows-at _ _ (search needs)))
+returns c = c .read .ensures ∙ c .before .part .ensures .1
 
 returns-2 : tie.Need-returns-2
 returns-2 c = c .nothing .ensures ∙ sym (rows-past _ _ (search needs))
@@ -16,11 +15,7 @@ pub row-at-spec : {M : Type 1} → statement M
 row-at-spec =
     tie.close
     (tie.spec
-    (λ c. search needs)
-    (λ c. search needs)
-    (λ c. search needs)
-    (λ c. search needs)
-    (λ c. search needs)
+    (λ c κs. search needs)
     (λ c κs. search needs)
     returns
     (λ c κs. search needs)

@@ -1,6 +1,7 @@
 -- As `by_id` of the table, for the band that holds the shares. Assumes nothing.
 use Prim.Native.Nat.{_-_}
 use Rattle.laws.specs.Search.{place}
+use Rattle.record.specs.Symbol.{noSymbol}
 use Rattle.record.specs.Codes.{kindBand}
 use Rattle.model.specs.Band.{bandFor}
 use Rattle.model.specs.Rows.{rows}
@@ -13,7 +14,7 @@ use Rattle.tables.proofs.band.band_at.Tie as tie
 abbrev Inv-loop : tie.InvT-loop
 Inv-loop book keys trade tier exchange n c₀ c =
     Probed keyBucket (bandFor (trade .form) tier exchange (trade .n1))
-    (bucketOf kindBand (trade .form) exchange 0 0 0) book
+    (bucketOf kindBand (trade .form) exchange 0 0 noSymbol) book
     (place (bandFor (trade .form) tier exchange (trade .n1)) (rows book)) c
 
 abbrev μ-loop : tie.MeasureT-loop

@@ -10,9 +10,10 @@ returns c = (no-bucket _ _ _ _ _ (c .if1 .taken), omega arith)
 
 returns-2 : tie.Need-returns-2
 returns-2 c =
-    let first = c .before .before .before .before in (
-      a-bucket _ _ (first .before .if1 .left) (first .wide8 .ensures .0) (c .before .before .before .wide82 .ensures .0)
-          (c .before .before .wide83 .ensures .0) (c .before .wide32 .ensures .0) (c .spread .ensures .0),
+    let third = c .before .before .before .before in
+    let first = third .before .before in (
+      a-bucket _ _ (first .before .if1 .left) (first .wide8 .ensures .0) (third .before .wide82 .ensures .0)
+          (third .wide83 .ensures .0) (c .before .wide32 .ensures .0) (c .spread .ensures .0),
       omega arith,
     )
 

@@ -2,6 +2,7 @@
 -- other buckets, which count nothing. The measure is the number of places left. Assumes nothing.
 use Prim.Native.Nat.{_-_}
 use Rattle.laws.specs.Search.{bit, count}
+use Rattle.record.specs.Symbol.{noSymbol}
 use Rattle.record.specs.Codes.{kindTradeHistory}
 use Rattle.model.specs.Names.{aHistory}
 use Rattle.model.specs.Rows.{hasKey, rows, there}
@@ -14,9 +15,9 @@ use Rattle.tables.proofs.sums.historied.Tie as tie
 
 abbrev Inv-loop : tie.InvT-loop
 Inv-loop book keys id status n present₀ above₀ c₀ present above c =
-    Tallied keyBucket (λ r. bit (hasKey (aHistory id status) r)) 1 (bucketOf kindTradeHistory 0 0 0 id 0) book
+    Tallied keyBucket (λ r. bit (hasKey (aHistory id status) r)) 1 (bucketOf kindTradeHistory 0 0 0 id noSymbol) book
     (count (hasKey (aHistory id status)) (rows book)) present c
-    × Tallied keyBucket (λ r. bit (higherThan id status r)) 1 (bucketOf kindTradeHistory 0 0 0 id 0) book
+    × Tallied keyBucket (λ r. bit (higherThan id status r)) 1 (bucketOf kindTradeHistory 0 0 0 id noSymbol) book
     (count (higherThan id status) (rows book)) above c
 
 abbrev μ-loop : tie.MeasureT-loop

@@ -2,6 +2,7 @@
 -- which count nothing. The measure is the number of places left. Assumes nothing.
 use Prim.Native.Nat.{_-_}
 use Rattle.laws.specs.Search.{bit, count}
+use Rattle.record.specs.Symbol.{noSymbol}
 use Rattle.record.specs.Codes.{kindBand}
 use Rattle.model.specs.Rows.{rows}
 use Rattle.model.specs.Sound.{overlaps}
@@ -14,7 +15,7 @@ use Rattle.tables.proofs.sums.overlapping.Tie as tie
 
 abbrev Inv-loop : tie.InvT-loop
 Inv-loop book keys band n sum₀ c₀ sum c =
-    Tallied keyBucket (λ r. bit (overlaps band r)) 1 (bucketOf kindBand (band .form) (band .flags) 0 0 0) book
+    Tallied keyBucket (λ r. bit (overlaps band r)) 1 (bucketOf kindBand (band .form) (band .flags) 0 0 noSymbol) book
     (count (overlaps band) (rows book)) sum c
 
 abbrev μ-loop : tie.MeasureT-loop

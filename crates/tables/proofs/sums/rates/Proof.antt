@@ -1,6 +1,7 @@
 -- The invariant: the sum so far and that of what is left make the whole; a link skips only rows of other buckets, which
 -- add nothing. The measure is the number of places left. Assumes nothing.
 use Prim.Native.Nat.{_-_}
+use Rattle.record.specs.Symbol.{noSymbol}
 use Rattle.record.specs.Codes.{kindCustomerRate}
 use Rattle.model.specs.Rows.{rows}
 use Rattle.model.specs.Sound.{rateOf, ratesOf}
@@ -13,7 +14,7 @@ use Rattle.tables.proofs.sums.rates.Tie as tie
 
 abbrev Inv-loop : tie.InvT-loop
 Inv-loop book keys customer n sum₀ c₀ sum c =
-    Tallied keyBucket (rateOf (rows book) customer) 4294967295 (bucketOf kindCustomerRate 0 0 customer 0 0) book
+    Tallied keyBucket (rateOf (rows book) customer) 4294967295 (bucketOf kindCustomerRate 0 0 customer 0 noSymbol) book
     (ratesOf (rows book) customer) sum c
 
 abbrev μ-loop : tie.MeasureT-loop

@@ -3,7 +3,7 @@
 use Prim.Native.Nat.{_+_, _-_}
 use lib.ListN.{drop}
 use Rattle.laws.specs.Search.{seek}
-use Rattle.record.specs.Key.{keyOf}
+use Rattle.rules.specs.Key.{keyOf}
 use Rattle.model.specs.Rows.{hasKey, rows}
 use Rattle.tables.specs.Bucket.{keyBucket}
 use borrow.Author.Needs.{needs}

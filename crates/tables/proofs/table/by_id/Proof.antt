@@ -2,6 +2,7 @@
 -- rows of other buckets, none of which has the key. The measure is the number of places left. Assumes nothing.
 use Prim.Native.Nat.{_-_}
 use Rattle.laws.specs.Search.{place}
+use Rattle.record.specs.Symbol.{noSymbol}
 use Rattle.model.specs.Names.{byId}
 use Rattle.model.specs.Rows.{hasKey, rows}
 use Rattle.tables.specs.Bucket.{bucketOf, keyBucket}
@@ -12,7 +13,7 @@ use Rattle.tables.proofs.table.by_id.Tie as tie
 
 abbrev Inv-loop : tie.InvT-loop
 Inv-loop book keys kind id n c₀ c =
-    Probed keyBucket (hasKey (byId kind id)) (bucketOf kind 0 0 0 id 0) book
+    Probed keyBucket (hasKey (byId kind id)) (bucketOf kind 0 0 0 id noSymbol) book
     (place (hasKey (byId kind id)) (rows book)) c
 
 abbrev μ-loop : tie.MeasureT-loop

@@ -1,6 +1,7 @@
 -- As `by_id`, by the other table. Assumes nothing.
 use Prim.Native.Nat.{_-_}
 use Rattle.laws.specs.Search.{place}
+use Rattle.record.specs.Symbol.{noSymbol}
 use Rattle.record.specs.Codes.{kindTrade}
 use Rattle.model.specs.Names.{aTrade}
 use Rattle.model.specs.Rows.{hasKey, rows}
@@ -12,7 +13,7 @@ use Rattle.tables.proofs.table.trade_at.Tie as tie
 
 abbrev Inv-loop : tie.InvT-loop
 Inv-loop book steady id n c₀ c =
-    Probed steadyBucket (hasKey (aTrade id)) (bucketOf kindTrade 0 0 0 id 0) book
+    Probed steadyBucket (hasKey (aTrade id)) (bucketOf kindTrade 0 0 0 id noSymbol) book
     (place (hasKey (aTrade id)) (rows book)) c
 
 abbrev μ-loop : tie.MeasureT-loop

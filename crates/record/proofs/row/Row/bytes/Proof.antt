@@ -25,7 +25,7 @@ returns c =
     let c2 = c3 .before .before in
     let c1 = c2 .before .before in
     let c0 = c1 .before .before in
-    let start = c0 .before .before in
+    let start = c0 .before .before .before in
     rw (
       c14 .put327 .ensures,
       c13 .put326 .ensures,

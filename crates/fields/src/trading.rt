@@ -1,0 +1,76 @@
+// The rules of what trade leaves: trades, requests, histories, lots, summaries, settlements and cash.
+ghost use mathlib.Core.Path.{_≡_};
+ghost use Rattle.rules.specs.Rules.{cash, lot, lotHistory, request, settlement, summary, trade, tradeHistory};
+use kinds::limits::Ranges;
+use kinds::rows::Cash;
+use kinds::rows::Lot;
+use kinds::rows::LotHistory;
+use kinds::rows::Request;
+use kinds::rows::Settlement;
+use kinds::rows::Summary;
+use kinds::rows::Trade;
+use kinds::rows::TradeHistory;
+use record::codes::TradeStatus;
+use record::row::Row;
+use rules::limited::alike;
+use rules::limited::in_limits;
+use rules::limited::near32;
+use rules::limited::near64;
+
+pub fn trade(r: Row) -> bool
+    ensures { λ b. ⌜ b ≡ trade r ⌝ }
+{
+    let symbol = r.symbol;
+    in_limits(r, Trade::LIMITS)
+        & alike(r.n3 != 0, r.status == TradeStatus::COMPLETED)
+        & ((r.m2 == 0) | (r.status == TradeStatus::COMPLETED))
+        & symbol.ok()
+}
+
+pub fn request(r: Row) -> bool
+    ensures { λ b. ⌜ b ≡ request r ⌝ }
+{
+    let symbol = r.symbol;
+    in_limits(r, Request::LIMITS) & symbol.ok()
+}
+
+pub fn trade_history(r: Row) -> bool
+    ensures { λ b. ⌜ b ≡ tradeHistory r ⌝ }
+{
+    in_limits(r, TradeHistory::LIMITS)
+}
+
+pub fn lot(r: Row) -> bool
+    ensures { λ b. ⌜ b ≡ lot r ⌝ }
+{
+    let symbol = r.symbol;
+    in_limits(r, Lot::LIMITS) & (r.m1 != 0) & near64(r.m1, Ranges::SHARES_MOST as u64) & symbol.ok()
+}
+
+pub fn summary(r: Row) -> bool
+    ensures { λ b. ⌜ b ≡ summary r ⌝ }
+{
+    let symbol = r.symbol;
+    in_limits(r, Summary::LIMITS) & (r.m1 != 0) & symbol.ok()
+}
+
+pub fn lot_history(r: Row) -> bool
+    ensures { λ b. ⌜ b ≡ lotHistory r ⌝ }
+{
+    in_limits(r, LotHistory::LIMITS)
+        & (r.n1 != r.n2)
+        & near32(r.n1, Ranges::SHARES_MOST)
+        & near32(r.n2, Ranges::SHARES_MOST)
+}
+
+pub fn settlement(r: Row) -> bool
+    ensures { λ b. ⌜ b ≡ settlement r ⌝ }
+{
+    in_limits(r, Settlement::LIMITS) & near64(r.m1, Ranges::MONEY_MOST)
+}
+
+pub fn cash(r: Row) -> bool
+    ensures { λ b. ⌜ b ≡ cash r ⌝ }
+{
+    in_limits(r, Cash::LIMITS) & near64(r.m1, Ranges::MONEY_MOST)
+}

@@ -1,0 +1,25 @@
+-- Each field is kept where the kind's marks have it: `marks-tell`. Assumes nothing.
+use Rattle.rules.specs.Marks.{marks-tell}
+use borrow.Author.Needs.{needs}
+use Rattle.rules.proofs.key.Key.of.Statement.{statement}
+use Rattle.rules.proofs.key.Key.of.Tie as tie
+
+returns : tie.Need-returns
+returns c =
+    let start = c .before .before .before .before .before .before .before .before .before in
+    cc (marks-tell (start .before .args .row))
+
+pub of-spec : {M : Type 1} → statement M
+of-spec =
+    tie.close
+    (tie.spec
+    (λ c κs. search needs)
+    (λ c κs. search needs)
+    (λ c κs. search needs)
+    (λ c κs. search needs)
+    (λ c κs. search needs)
+    (λ c κs. search needs)
+    (λ c κs. search needs)
+    (λ c κs. search needs)
+    (λ c κs. search needs)
+    returns)

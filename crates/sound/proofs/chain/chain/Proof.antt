@@ -1,0 +1,35 @@
+-- The invariant: the places from i on are chained, and each is of a kind. Each turn puts one place in front of its
+-- kind's chain. The measure is i. Assumes nothing.
+use borrow.Author.Needs.{needs}
+use Rattle.sound.specs.Chains.{ByKind, chains}
+use Rattle.sound.proofs.chain.chain.Statement.{statement}
+use Rattle.sound.proofs.chain.chain.Tie as tie
+
+abbrev Inv-loop : tie.InvT-loop
+Inv-loop book kinds₀ i₀ kinds i = ByKind book kinds i
+
+abbrev μ-loop : tie.MeasureT-loop
+μ-loop book kinds₀ i₀ kinds i = i
+
+pub chain-spec : {M : Type 1} → statement M
+chain-spec =
+    tie.close
+    (tie.spec
+    Inv-loop
+    μ-loop
+    (λ c. search (needs, chains))
+    (λ c. search (needs, chains))
+    (λ c κs. search (needs, chains))
+    (λ c. search (needs, chains))
+    (λ c κs. search (needs, chains))
+    (λ c. search (needs, chains))
+    (λ c. search (needs, chains))
+    (λ c. search (needs, chains))
+    (λ c. search (needs, chains))
+    (λ c. search (needs, chains))
+    (λ c κs. search (needs, chains))
+    (λ c. search (needs, chains))
+    (λ c. search (needs, chains))
+    (λ c. search (needs, chains))
+    (λ c. search (needs, chains))
+    (λ c. search (needs, chains)))

@@ -1,0 +1,169 @@
+// The rows that hang on a trade: request, trade history, lot, settlement and cash. Each is decided by its trade and
+// marked there; two rows of one key would have one mark. The marks then decide each trade.
+ghost use mathlib.Core.Path.{_≡_};
+ghost use mathlib.Core.Bool.{false, true};
+ghost use Prim.Native.Nat.{_+_, _*_, _/_, _<_};
+ghost use lib.ListN.{length};
+ghost use Rattle.record.specs.Codes.{kindTrade};
+ghost use Rattle.rules.specs.Key.{among};
+ghost use Rattle.model.specs.Names.{aTrade};
+ghost use Rattle.model.specs.Rows.{found, rows};
+ghost use Rattle.model.specs.Sound.{s1, s2, sound};
+ghost use Rattle.shelf.specs.Rows.{rowAt};
+ghost use Rattle.tables.specs.Bucket.{keyBucket};
+ghost use Rattle.tables.specs.Table.{Indexed};
+ghost use Rattle.sound.specs.Chains.{ByKind};
+ghost use Rattle.sound.specs.Kinds.{KindWell, TradesHung};
+ghost use Rattle.sound.specs.Hung.{fitsTrade, hangs, hung, hungKinds, offset};
+ghost use Rattle.sound.specs.Says.{Says};
+ghost use Rattle.sound.specs.Slots.{MarkedTo, allPast};
+ghost use Rattle.sound.specs.Turn.{Hanged};
+use crate::chain::Links;
+use crate::chain::index;
+use crate::holding::held;
+use crate::trade::asked;
+use crate::trade::due;
+use crate::trade::one;
+use crate::trade::settles;
+use fields::row_fits;
+use record::codes::Kind;
+use record::codes::TradeStatus;
+use record::codes::TradeType;
+use record::row::Grid;
+use record::row::Row;
+use shelf::place::row_at;
+use tables::table::Slots;
+use tables::table::by_id;
+use tables::table::wide;
+
+// Eight marks for each place: a trade's are those of its request (0), its histories (their status), its lot (5), its
+// settlement (6) and its cash (7).
+pub struct Marks {}
+
+impl Marks {
+    pub const ALL: usize = 32_768;
+}
+
+fn offset(r: Row) -> usize
+    requires { ⌜ hangs r ≡ true ⌝ }
+    ensures { λ o. ⌜ o ≡ offset r ⌝ }
+{
+    let kind = r.kind;
+    match kind {
+        Kind::TRADE_HISTORY => index(r.status),
+        Kind::LOT => 5,
+        Kind::SETTLEMENT => 6,
+        Kind::CASH => 7,
+        _ => 0,
+    }
+}
+
+// A row fits its trade.
+fn fits_trade(book: &[u8], keys: &[u16; Slots::ALL], t: Row, r: Row) -> bool
+    requires { ⌜ Indexed keyBucket (now book) (now keys) 0 ⌝ }
+    requires { ⌜ (hangs r ≡ true) × (t ≡ found (aTrade (r .id)) (rows (now book))) ⌝ }
+    ensures { λ b. ⌜ b ≡ fitsTrade (rows (now (book .entry))) t r ⌝ }
+{
+    let kind = r.kind;
+    match kind {
+        Kind::TRADE_HISTORY => r.status <= t.status,
+        Kind::LOT => held(book, keys, t, r),
+        Kind::SETTLEMENT => settles(t, r),
+        Kind::CASH => due(book, keys, r),
+        _ => asked(book, keys, t, r),
+    }
+}
+
+// The slot of the row at i where that is well and no row before it has the slot, else the number of marks.
+fn slot_at(book: &[u8], keys: &[u16; Slots::ALL], marks: &[u8; Marks::ALL], i: usize) -> usize
+    requires { ⌜ Indexed keyBucket (now book) (now keys) 0 ⌝ }
+    requires { ⌜ (i < length (now book) / 64) × (hangs (rowAt (now book) i) ≡ true) ⌝ }
+    requires { ⌜ MarkedTo (now book) (rowAt (now book) i .kind * 4096 + i) (now marks) ⌝ }
+    ensures { λ r. ⌜ Hanged (now (book .entry)) (now (marks .entry)) i r ⌝ }
+{
+    let row = row_at(book, i);
+    if !row_fits(row) {
+        return Marks::ALL;
+    }
+    let p = by_id(book, keys, Kind::TRADE, row.id);
+    if book.len() / Grid::SIZE <= p {
+        return Marks::ALL;
+    }
+    if !fits_trade(book, keys, row_at(book, p), row) {
+        return Marks::ALL;
+    }
+    let s = p * 8 + offset(row);
+    if marks[s] != 0 {
+        return Marks::ALL;
+    }
+    s
+}
+
+// S1, S2 and the rule of a row by its trade, for every row of a kind that hangs on a trade; and they are marked.
+pub fn hang(
+    book: &[u8],
+    keys: &[u16; Slots::ALL],
+    kinds: &[u16; Links::ALL],
+    marks: &mut [u8; Marks::ALL],
+    kind: u8,
+) -> bool
+    requires { ⌜ Indexed keyBucket (now book) (now keys) 0 ⌝ }
+    requires { ⌜ ByKind (now book) (now kinds) 0 ⌝ }
+    requires { ⌜ among kind hungKinds ≡ true ⌝ }
+    requires { ⌜ MarkedTo (now book) (kind * 4096) (now marks) ⌝ }
+    ensures { λ r.
+        let b = now (book .entry) in
+        ⌜ Says r (KindWell b kind × MarkedTo b ((kind + 1) * 4096) (now (marks .exit))) (sound (rows b)) ⌝ }
+{
+    let n = book.len() / Grid::SIZE;
+    let mut c = wide(kinds[index(kind)]);
+    while c < n {
+        let s = slot_at(book, keys, marks, c);
+        if Marks::ALL <= s {
+            return false;
+        }
+        marks[s] = 1;
+        c = wide(kinds[Links::HEADS + c]);
+    }
+    true
+}
+
+// What a trade asks of the rows that hang on it, by its marks.
+fn hung_at(book: &[u8], marks: &[u8; Marks::ALL], i: usize) -> bool
+    requires { ⌜ (s1 (rows (now book)) ≡ true) × (s2 (rows (now book)) ≡ true) ⌝ }
+    requires { ⌜ (i < length (now book) / 64) × (rowAt (now book) i .kind ≡ kindTrade) ⌝ }
+    requires { ⌜ MarkedTo (now book) allPast (now marks) ⌝ }
+    ensures { λ r. ⌜ r ≡ hung (rows (now (book .entry))) (rowAt (now (book .entry)) i) ⌝ }
+{
+    let t = row_at(book, i);
+    let m = i * 8;
+    let request = marks[m];
+    let history = marks[m + index(t.status)];
+    let settlement = marks[m + 6];
+    let cash = marks[m + 7];
+    let pending = t.status == TradeStatus::PENDING;
+    let done = t.status == TradeStatus::COMPLETED;
+    (request == one(pending))
+        & (!pending | (TradeType::TLB <= t.form))
+        & (history == 1)
+        & (settlement == one(done))
+        & (cash == one(done & (t.flags % 2 == 1)))
+}
+
+pub fn hung(book: &[u8], kinds: &[u16; Links::ALL], marks: &[u8; Marks::ALL]) -> bool
+    requires { ⌜ (s1 (rows (now book)) ≡ true) × (s2 (rows (now book)) ≡ true) ⌝ }
+    requires { ⌜ ByKind (now book) (now kinds) 0 ⌝ }
+    requires { ⌜ MarkedTo (now book) allPast (now marks) ⌝ }
+    ensures { λ r. ⌜ Says r (TradesHung (now (book .entry))) (sound (rows (now (book .entry)))) ⌝ }
+{
+    let n = book.len() / Grid::SIZE;
+    let mut c = wide(kinds[index(Kind::TRADE)]);
+    while c < n {
+        if hung_at(book, marks, c) {
+            c = wide(kinds[Links::HEADS + c]);
+        } else {
+            return false;
+        }
+    }
+    true
+}
