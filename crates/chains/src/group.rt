@@ -1,0 +1,128 @@
+// The group of a row, and its bucket in a directory of so many heads. Rows of one group share a chain: it leaves out
+// what the rates of a customer, the bands of a type, tier and exchange and the histories of a trade differ in, and a
+// lot is grouped by its account and symbol. Which bucket it is matters for speed alone.
+ghost use mathlib.Core.Path.{_≡_};
+ghost use Prim.Native.Nat.{_<_, _≤_};
+ghost use lib.ListN.{getD};
+ghost use Rattle.chains.specs.Chains.{half};
+ghost use Rattle.chains.specs.Group.{aGroup, bucketOf, groupOf, hashOf, keyGroup, letters, mostHeads, spread};
+use crate::chain;
+use record::bytes::wide32;
+use record::codes::Kind;
+use record::row::Row;
+use record::symbol::Symbol;
+use rules::key::Key;
+
+fn wide8(x: u8) -> u64
+    ensures { λ r. ⌜ (r ≡ x) × (r < 256) ⌝ }
+{
+    x as u64
+}
+
+// Both halves of a number tell: trades may be numbered in either.
+fn spread(id: u64) -> u64
+    ensures { λ r. ⌜ (r ≡ spread id) × (r < 4611686018427387904) ⌝ }
+{
+    id % 4_294_967_296 * 511_659_861 + id / 4_294_967_296 * 496_329_549
+}
+
+fn letters(symbol: Symbol) -> u64
+    ensures { λ r. ⌜ (r ≡ letters symbol) × (r < 4611686018427387904) ⌝ }
+{
+    let x = symbol.0;
+    x / 4_294_967_296 * 530_544_139 + x % 4_294_967_296 * 335_384_881
+}
+
+fn hash(group: Key) -> u64
+    ensures { λ r. ⌜ (r ≡ hashOf group) × (r < 4294967296) ⌝ }
+{
+    let name = wide8(group.kind)
+        + wide8(group.form) * 256
+        + wide8(group.status) * 65_536
+        + wide8(group.flags) * 16_777_216;
+    let mixed = name * 331_315_835
+        + wide32(group.party) * 428_851_817
+        + spread(group.id)
+        + letters(group.symbol);
+    mixed % 4_294_967_296
+}
+
+// The free rows have the last bucket to themselves.
+pub fn bucket(heads: usize, group: Key) -> usize
+    requires { ⌜ (1 ≤ heads) × (heads ≤ mostHeads) ⌝ }
+    ensures { λ r. ⌜ (r ≡ bucketOf heads group) × (r < heads) ⌝ }
+{
+    if group.kind == Kind::FREE {
+        return heads - 1;
+    }
+    let others = (heads - 1) as u64;
+    (hash(group) * others / 4_294_967_296) as usize
+}
+
+// The first place of a group's bucket.
+pub fn first(dir: &[u16], group: Key) -> usize
+    requires { ⌜ (1 ≤ half (now dir)) × (half (now dir) ≤ mostHeads) ⌝ }
+    ensures { λ r. ⌜ r ≡ getD (now (dir .entry)) (bucketOf (half (now (dir .entry))) group) 0 ⌝ }
+{
+    chain::first(dir, bucket(dir.len() / 2, group))
+}
+
+// The group that these fields name; those that it has not are 0.
+pub fn of_fields(
+    kind: u8,
+    form: u8,
+    status: u8,
+    flags: u8,
+    party: u32,
+    id: u64,
+    symbol: Symbol,
+) -> Key
+    ensures { λ r. ⌜ r ≡ aGroup kind form status flags party id symbol ⌝ }
+{
+    Key {
+        kind,
+        form,
+        status,
+        flags,
+        party,
+        id,
+        symbol,
+        n1: 0,
+        m2: 0,
+    }
+}
+
+// The group of the rows of a key that is no lot's.
+pub fn of_key(key: Key) -> Key
+    ensures { λ r. ⌜ r ≡ keyGroup key ⌝ }
+{
+    if key.kind == Kind::TRADE_HISTORY {
+        return of_fields(
+            key.kind,
+            key.form,
+            0,
+            key.flags,
+            key.party,
+            key.id,
+            key.symbol,
+        );
+    }
+    of_fields(
+        key.kind,
+        key.form,
+        key.status,
+        key.flags,
+        key.party,
+        key.id,
+        key.symbol,
+    )
+}
+
+pub fn of(row: Row) -> Key
+    ensures { λ r. ⌜ r ≡ groupOf row ⌝ }
+{
+    if row.kind == Kind::LOT {
+        return of_fields(Kind::LOT, 0, 0, 0, row.party, 0, row.symbol);
+    }
+    of_key(Key::of(row))
+}
