@@ -9,9 +9,9 @@ use native.Mathlib.Omega.{arith}
 use lib.Dec.{eqb, leb}
 use lib.IntN.{ℤ}
 use lib.ListN.{length, replicate}
-use borrow.Author.Tests.{eqb-true, leb-true}
+use borrow.Author.Tests.{eq-eqb, eqb-true, leb-true}
 use Rattle.laws.specs.Search.{every}
-use Rattle.laws.specs.Tests.{and-left, and-right}
+use Rattle.laws.specs.Tests.{and-both, and-left, and-right}
 use Rattle.record.specs.Bytes.{Bytes}
 use Rattle.record.specs.declared.row.Row.{Row}
 use Rattle.rules.specs.Rules.{lookupInput}
@@ -20,14 +20,16 @@ use Rattle.model.specs.Status.{isDone, number}
 use Rattle.model.specs.Call.{Promise, Reply, either, mostInputs, refusalArea, replied, run, shell}
 use Rattle.model.specs.Lookup.{lookup}
 use Rattle.model.specs.Plan.{Outcome, pick, refused}
-use Rattle.model.specs.Rows.{mostRecords, recordSize, rows, wholeRecords}
+use Rattle.model.specs.Rows.{mostRecords, places, recordSize, rows, wholeRecords}
 use Rattle.model.specs.Sound.{sound}
 use Rattle.model.specs.declared.Status.{Status}
 use Rattle.model.specs.declared.Status.the-variants.{BadBook, BadInput, BadLength, Done, Unsound}
 use Rattle.model.specs.Unposted.{lookup-keeps}
-use Rattle.tables.specs.Bucket.{keyBucket, steadyBucket}
-use Rattle.tables.specs.Table.{Blank, Indexed, blank-of, tableSize}
+use Rattle.chains.specs.Group.{mostHeads}
+use Rattle.directory.specs.Directory.{Blank, Directory, blank-of}
+use Rattle.directory.specs.declared.totals.Totals.{Totals}
 use Rattle.reply.specs.Left.{answerLeft, bookLeft, left-refused, promised}
+use Rattle.reply.specs.declared.Ended.{Ended}
 use Rattle.sound.specs.ByRow.{rule-kept, rule-lost}
 use Rattle.book.specs.declared.Call.{Call}
 use Rattle.book.specs.declared.Call.the-variants.{Feed, Order, Result}
@@ -37,18 +39,16 @@ unfoldable pub opening : Bool → List ℕ → Status
 opening inputs b =
     cond (wholeRecords mostRecords (length b)) (cond (sound (rows b)) (cond inputs Done BadInput) Unsound) BadBook
 
--- where no check fails: the two tables, and what the checks have shown
-pub record Opened (inputs : Bool) (b keys steady : List ℕ) : Type 0 where
-  pub by-key : Indexed keyBucket b keys 0
-  pub steadily : Indexed steadyBucket b steady 0
+-- where no check fails: the directory, and what the checks have shown
+pub record Opened (inputs : Bool) (b d : List ℕ) (t : Totals) : Type 0 where
+  pub listed : Directory b d t
   pub is-sound : sound (rows b) ≡ true
   pub is-whole : wholeRecords mostRecords (length b) ≡ true
   pub is-good : inputs ≡ true
 
--- tables that can be built
-pub record Empty (b keys steady : List ℕ) : Type 0 where
-  pub by-key : Blank b keys
-  pub steadily : Blank b steady
+-- a directory can be built in the area where the book is whole
+abbrev pub Room : List ℕ → List ℕ → Type 0
+Room b d = wholeRecords mostRecords (length b) ≡ true → Blank b d
 
 -- ---- the checks
 pub few : (most n : ℕ) → wholeRecords most n ≡ true → n / 64 ≤ most
@@ -66,36 +66,42 @@ some most n e =
 never : false ≡ true → ⊥
 never e = let z : _≡_ {A = ℕ} 0 1 = ap (λ (t : Bool). cond t 1 0) e in omega arith
 
-pub empty : (b : List ℕ) (e : ℕ) → (length b / 64 < 65536 → e ≡ length b / 64)
-    → wholeRecords mostRecords (length b) ≡ true → Empty b (replicate tableSize e) (replicate tableSize e)
-empty b e h w =
+-- an area of m cells, filled with the number of places
+pub room : (b : List ℕ) (m e : ℕ) → (places b < 65536 → e ≡ places b) → (places b ≤ mostRecords → places b < m / 2)
+    → m / 2 ≤ mostHeads → Room b (replicate m e)
+room b m e h f l w =
     let n = few mostRecords (length b) w in
-    let q = h (omega arith) in
-    record { by-key = blank-of b e q; steadily = blank-of b e q }
+    blank-of b m e (h (omega arith)) (f n) l
 
-module _ (inputs : Bool) (b : List ℕ) {x : Bool} (h : x ≡ wholeRecords mostRecords (length b)) where
-  pub bad-book : not x ≡ true → (k l : List ℕ)
-      → (BadBook ≡ opening inputs b) × (isDone BadBook ≡ true → Opened inputs b k l)
+module _ (inputs : Bool) (b : List ℕ) {x : Bool} (h : x ≡ wholeRecords mostRecords (length b)) (d : List ℕ) where
+  -- what the checks come to by a status
+  abbrev Opens : Ended → Type 0
+  Opens e = (e .status ≡ opening inputs b) × (isDone (e .status) ≡ true → Opened inputs b d (e .totals))
+
+  fails : {e : Ended} {s : Status} → e .status ≡ s → isDone s ≡ false → s ≡ opening inputs b → Opens e
+  fails {e} a n q = (a ∙ q, λ z. absurd (never (sym n ∙ ap isDone (sym a) ∙ z)))
+
+  pub bad-book : {e : Ended} → not x ≡ true → e .status ≡ BadBook → Opens e
   unfolding opening
-  bad-book e k l = (rw (rule-lost h e), λ z. absurd (never z))
+  bad-book f a = fails a refl (rw (rule-lost h f))
 
-  module _ {y : Bool} (e : not x ≡ false) (g : y ≡ sound (rows b)) (k l : List ℕ) where
-    pub unsound-book : not y ≡ true → (Unsound ≡ opening inputs b) × (isDone Unsound ≡ true → Opened inputs b k l)
+  module _ {y : Bool} (f : not x ≡ false) (g : y ≡ sound (rows b)) where
+    pub unsound-book : {e : Ended} → not y ≡ true → e .status ≡ Unsound → Opens e
     unfolding opening
-    unsound-book f = (rw (rule-kept h e, rule-lost g f), λ z. absurd (never z))
+    unsound-book z a = fails a refl (rw (rule-kept h f, rule-lost g z))
 
-    pub bad-input : not y ≡ false → inputs ≡ false
-        → (BadInput ≡ opening inputs b) × (isDone BadInput ≡ true → Opened inputs b k l)
+    pub bad-input : {e : Ended} → not y ≡ false → not inputs ≡ true → e .status ≡ BadInput → Opens e
     unfolding opening
-    bad-input f i = (rw (rule-kept h e, rule-kept g f, i), λ z. absurd (never z))
+    bad-input z i a = fails a refl (rw (rule-kept h f, rule-kept g z, rule-lost {t = inputs} refl i))
 
-    pub open-book : not y ≡ false → inputs ≡ true → Indexed keyBucket b k 0 → Indexed steadyBucket b l 0
-        → (Done ≡ opening inputs b) × (isDone Done ≡ true → Opened inputs b k l)
+    pub open-book : {e : Ended} → not y ≡ false → not inputs ≡ false → e .status ≡ Done → Directory b d (e .totals)
+        → Opens e
     unfolding opening
-    open-book f i p q =
-        let s = rule-kept g f in
-        let w = rule-kept h e in
-        (rw (w, s, i), λ z. record { by-key = p; steadily = q; is-sound = s; is-whole = w; is-good = i })
+    open-book z i a t =
+        let s = rule-kept g z in
+        let w = rule-kept h f in
+        let k = rule-kept {t = inputs} refl i in
+        (a ∙ rw (w, s, k), λ q. record { listed = t; is-sound = s; is-whole = w; is-good = k })
 
 -- ---- the lengths of an input and of an answer that has n bytes
 module _ {x y : Bool} (a : List ℕ) (n : ℕ) (h : x ≡ y) where
@@ -107,6 +113,9 @@ module _ {x y : Bool} (a : List ℕ) (n : ℕ) (h : x ≡ y) where
 
   pub wrong-lengths : not (x && eqb (length a) n) ≡ true → (y && eqb (length a) n) ≡ false
   wrong-lengths e = rule-lost (ap (λ (t : Bool). t && eqb (length a) n) h) e
+
+pub long-both : {x : Bool} (a : List ℕ) {n : ℕ} → x ≡ true → length a ≡ n → (x && eqb (length a) n) ≡ true
+long-both {x} a {n} e l = and-both x (eqb (length a) n) e (eq-eqb (length a) n l)
 
 -- ---- the reply
 pub uncalled : {lengths : Bool} (inputs : Bool) (decide : List Row → Outcome) (b a : List ℕ) {z : ℤ} → lengths ≡ false
@@ -165,15 +174,14 @@ callOf call b input a =
     shell (longOf call (length input) && eqb (length a) recordSize) (fieldsOf call input) (decideOf call input) b a
 
 -- ---- lookup
-pub lookup-long : {x : Bool} (input a : List ℕ) → x ≡ wholeRecords mostInputs (length input)
-    → not (x && eqb (length a) (2 * length input)) ≡ false
+pub lookup-long : (input a : List ℕ)
+    → (wholeRecords mostInputs (length input) ≡ true) × (length a ≡ 2 * length input)
     → ((wholeRecords mostInputs (length input) && eqb (length a) (2 * length input)) ≡ true)
-    × (wholeRecords mostInputs (length input) ≡ true) × (length a ≡ length input * 2) × (recordSize ≤ length a)
-lookup-long input a h e =
-    let long = right-lengths a (2 * length input) h e in
-    let whole = some _ _ (long .1) in
-    let twice = long .2 in
-    (long .0, long .1, omega arith, omega arith)
+    × (length a ≡ length input * 2) × (recordSize ≤ length a)
+lookup-long input a l =
+    let whole = some _ _ (l .0) in
+    let twice = l .1 in
+    (long-both a (l .0) twice, omega arith, omega arith)
 
 -- a lookup leaves the book
 pub lookup-left : (b input a : List ℕ) {x : Bool} {s : Status} → Bytes b

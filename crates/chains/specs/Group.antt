@@ -1,17 +1,18 @@
 -- The group of a row, which rows that are read together share, and the bucket of a group. Which bucket it is matters
 -- for speed alone. Assumes nothing.
 use mathlib.Core.Path.{_≡_, refl, sym, ap}
-use mathlib.Core.Bool.{Bool, true, false, cond}
+use mathlib.Core.Bool.{Bool, true, false, cond, not, _&&_, _||_, false≢true}
 use Prim.Native.Nat.{ℕ, _+_, _-_, _*_, _/_, _%_, _≤_, _<_}
 use native.Mathlib.Nat.{mul-le-mul-right}
 use native.Mathlib.Omega.{arith}
 use lib.Dec.{eqb}
 use borrow.Author.Tests.{ne-eqb, eqb-true}
-use Rattle.record.specs.Codes.{kindAccount, kindBroker, kindFree, kindLot, kindSecurity, kindSummary, kindTrade}
-use Rattle.record.specs.Codes.{kindTradeHistory}
-use Rattle.rules.specs.Key.{keyOf}
+use Rattle.laws.specs.Tests.{and-true, or-false}
+use Rattle.record.specs.Codes.{kindAccount, kindBand, kindBroker, kindCharge, kindFree, kindLot, kindRequest}
+use Rattle.record.specs.Codes.{kindSecurity, kindSummary, kindTrade, kindTradeHistory}
+use Rattle.rules.specs.Key.{among, byId, byParty, bySymbol, keyOf}
 use Rattle.rules.specs.declared.key.Key.{Key}
-use Rattle.record.specs.Symbol.{symbolNumber}
+use Rattle.record.specs.Symbol.{noSymbol, symbolNumber}
 use Rattle.record.specs.declared.row.Row.{Row}
 use Rattle.record.specs.declared.symbol.Symbol.{Symbol}
 use Rattle.model.specs.Rows.{is}
@@ -30,7 +31,11 @@ aGroup kind form status flags party id symbol = record {
   m2 = 0;
 }
 
--- of a key that is no lot's: the status of a history, the first share count of a band, the rate of a customer and the
+-- rows of these kinds are grouped by what they are of, and not by their key
+abbrev pub apart : ℕ → Bool
+apart kind = eqb kind kindLot || eqb kind kindRequest
+
+-- of a key of any other kind: the status of a history, the first share count of a band, the rate of a customer and the
 -- second trade of a lot history fall away
 unfoldable pub keyGroup : Key → Key
 keyGroup k =
@@ -40,17 +45,82 @@ keyGroup k =
 abbrev pub lotGroup : ℕ → Symbol → Key
 lotGroup account symbol = aGroup kindLot 0 0 0 account 0 symbol
 
+abbrev pub requestGroup : Symbol → Key
+requestGroup symbol = aGroup kindRequest 0 0 0 0 0 symbol
+
 unfoldable pub groupOf : Row → Key
-groupOf r = cond (is kindLot r) (lotGroup (r .party) (r .symbol)) (keyGroup (keyOf r))
+groupOf r =
+    cond (is kindLot r) (lotGroup (r .party) (r .symbol))
+    (cond (is kindRequest r) (requestGroup (r .symbol)) (keyGroup (keyOf r)))
+
+pub by-key : (r : Row) → apart (r .kind) ≡ false → groupOf r ≡ keyGroup (keyOf r)
+unfolding groupOf
+by-key r e = go (is kindLot r) (is kindRequest r) refl refl e
+  where
+    go : (l q : Bool) → is kindLot r ≡ l → is kindRequest r ≡ q → (l || q) ≡ false
+        → cond (is kindLot r) (lotGroup (r .party) (r .symbol))
+        (cond (is kindRequest r) (requestGroup (r .symbol)) (keyGroup (keyOf r)))
+        ≡ keyGroup (keyOf r)
+    go true q a b h = absurd (false≢true (sym h))
+    go false true a b h = absurd (false≢true (sym h))
+    go false false a b h = rw (a, b)
 
 pub group-kind : (r : Row) → groupOf r .kind ≡ r .kind
 unfolding groupOf keyGroup keyOf
-group-kind r = go (is kindLot r) refl
+group-kind r = go (is kindLot r) (is kindRequest r) refl refl
   where
-    go : (t : Bool) → is kindLot r ≡ t
-        → cond (is kindLot r) (lotGroup (r .party) (r .symbol)) (keyGroup (keyOf r)) .kind ≡ r .kind
-    go true e = rw e (sym (eqb-true (r .kind) kindLot e))
-    go false e = rw e
+    go : (l q : Bool) → is kindLot r ≡ l → is kindRequest r ≡ q
+        → cond (is kindLot r) (lotGroup (r .party) (r .symbol))
+        (cond (is kindRequest r) (requestGroup (r .symbol)) (keyGroup (keyOf r))) .kind
+        ≡ r .kind
+    go true q a b = rw a (sym (eqb-true (r .kind) kindLot a))
+    go false true a b = rw (a, b) (sym (eqb-true (r .kind) kindRequest b))
+    go false false a b = rw (a, b)
+
+-- as the code finds it for a row that is neither a band nor a charge
+both-no : (a b : Bool) → (a || b) ≡ false → (a ≡ false) × (b ≡ false)
+both-no true b e = absurd (false≢true (sym e))
+both-no false b e = (refl, e)
+
+abbrev groupBy : Row → Bool → Bool → Key
+groupBy r lot request =
+    cond lot (lotGroup (r .party) (r .symbol)) (cond request (requestGroup (r .symbol)) (keyGroup (keyOf r)))
+
+pub common-group : (r : Row) {p i : ℕ} {s : Symbol} {x y z : Bool}
+    → (eqb (r .kind) kindBand || eqb (r .kind) kindCharge) ≡ false → x ≡ among (r .kind) byParty
+    → y ≡ among (r .kind) byId → z ≡ among (r .kind) bySymbol → p ≡ cond (x || is kindLot r) (r .party) 0
+    → i ≡ cond (y && not (apart (r .kind))) (r .id) 0 → s ≡ cond (z || apart (r .kind)) (r .symbol) noSymbol
+    → aGroup (r .kind) 0 0 0 p i s ≡ groupOf r
+unfolding groupOf keyGroup keyOf
+common-group r {p} {i} {s} n ex ey ez ep ei es =
+    rw (ep, ei, es, ex, ey, ez)
+    (go (is kindLot r) (is kindRequest r) (eqb (r .kind) kindTradeHistory) refl refl refl)
+  where
+    go : (t q u : Bool) → is kindLot r ≡ t → is kindRequest r ≡ q → eqb (r .kind) kindTradeHistory ≡ u
+        → aGroup (r .kind) 0 0 0 (cond (among (r .kind) byParty || is kindLot r) (r .party) 0)
+        (cond (among (r .kind) byId && not (apart (r .kind))) (r .id) 0)
+        (cond (among (r .kind) bySymbol || apart (r .kind)) (r .symbol) noSymbol)
+        ≡ groupBy r (is kindLot r) (is kindRequest r)
+    go true q u e g f = rw (eqb-true (r .kind) kindLot e)
+    go false true u e g f = rw (eqb-true (r .kind) kindRequest g)
+    go false false true e g f =
+        let o = both-no (eqb (r .kind) kindBand) (eqb (r .kind) kindCharge) n in
+        rw (e, g, o .0, o .1, f) (simp (or-false, and-true))
+    go false false false e g f =
+        let o = both-no (eqb (r .kind) kindBand) (eqb (r .kind) kindCharge) n in
+        rw (e, g, o .0, o .1, f) (simp (or-false, and-true))
+
+-- and for one that is
+pub rare-group : (r : Row) {k : Key} → (eqb (r .kind) kindBand || eqb (r .kind) kindCharge) ≡ true → k ≡ keyOf r
+    → keyGroup k ≡ groupOf r
+unfolding groupOf
+rare-group r {k} h q = go (is kindLot r) (is kindRequest r) refl refl
+  where
+    go : (t u : Bool) → is kindLot r ≡ t → is kindRequest r ≡ u
+        → keyGroup k ≡ groupBy r (is kindLot r) (is kindRequest r)
+    go true u e g = absurd (false≢true (rw (eqb-true (r .kind) kindLot e) at h))
+    go false true e g = absurd (false≢true (rw (eqb-true (r .kind) kindRequest g) at h))
+    go false false e g = rw (e, g, q)
 
 -- ---- buckets
 abbrev pub mostHeads : ℕ

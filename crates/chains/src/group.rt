@@ -1,9 +1,14 @@
 // The group of a row, and its bucket in a directory of so many heads. Rows of one group share a chain: it leaves out
-// what the rates of a customer, the bands of a type, tier and exchange and the histories of a trade differ in, and a
-// lot is grouped by its account and symbol. Which bucket it is matters for speed alone.
+// what the rates of a customer, the bands of a type, tier and exchange and the histories of a trade differ in. A lot is
+// grouped by its account and symbol, a request by its symbol. Which bucket it is matters for speed alone.
 ghost use mathlib.Core.Path.{_≡_};
+ghost use mathlib.Core.Bool.{_||_, cond, false};
 ghost use Prim.Native.Nat.{_<_, _≤_};
+ghost use lib.Dec.{eqb};
 ghost use lib.ListN.{getD};
+ghost use Rattle.record.specs.Codes.{kindBand, kindCharge};
+ghost use Rattle.record.specs.Symbol.{noSymbol};
+ghost use Rattle.rules.specs.Key.{among, byId, byParty, bySymbol};
 ghost use Rattle.chains.specs.Chains.{half};
 ghost use Rattle.chains.specs.Group.{aGroup, bucketOf, groupOf, hashOf, keyGroup, letters, mostHeads, spread};
 use crate::chain;
@@ -92,7 +97,7 @@ pub fn of_fields(
     }
 }
 
-// The group of the rows of a key that is no lot's.
+// The group of the rows of a key that is no lot's and no request's.
 pub fn of_key(key: Key) -> Key
     ensures { λ r. ⌜ r ≡ keyGroup key ⌝ }
 {
@@ -118,11 +123,75 @@ pub fn of_key(key: Key) -> Key
     )
 }
 
+fn kept32(named: bool, x: u32) -> u32
+    ensures { λ r. ⌜ r ≡ cond named x 0 ⌝ }
+{
+    if named { x } else { 0 }
+}
+
+fn kept64(named: bool, x: u64) -> u64
+    ensures { λ r. ⌜ r ≡ cond named x 0 ⌝ }
+{
+    if named { x } else { 0 }
+}
+
+fn kept_symbol(named: bool, x: Symbol) -> Symbol
+    ensures { λ r. ⌜ r ≡ cond named x noSymbol ⌝ }
+{
+    if named { x } else { Symbol::NONE }
+}
+
+// The kinds whose key has a number of a party.
+fn owned(kind: u8) -> bool
+    ensures { λ r. ⌜ r ≡ among kind byParty ⌝ }
+{
+    (kind == Kind::BROKER)
+        | (kind == Kind::CUSTOMER)
+        | (kind == Kind::TAX_RATE)
+        | (kind == Kind::CUSTOMER_RATE)
+        | (kind == Kind::ACCOUNT)
+        | (kind == Kind::SUMMARY)
+}
+
+// The kinds whose key has a trade's number.
+fn numbered(kind: u8) -> bool
+    ensures { λ r. ⌜ r ≡ among kind byId ⌝ }
+{
+    (kind == Kind::TRADE)
+        | (kind == Kind::REQUEST)
+        | (kind == Kind::TRADE_HISTORY)
+        | (kind == Kind::LOT)
+        | (kind == Kind::LOT_HISTORY)
+        | (kind == Kind::SETTLEMENT)
+        | (kind == Kind::CASH)
+}
+
+// The kinds whose key has a symbol.
+fn lettered(kind: u8) -> bool
+    ensures { λ r. ⌜ r ≡ among kind bySymbol ⌝ }
+{
+    (kind == Kind::SECURITY) | (kind == Kind::SUMMARY)
+}
+
+// The group of a row that is neither a band nor a charge, without a branch.
+fn common(row: Row) -> Key
+    requires { ⌜ (eqb (row .kind) kindBand || eqb (row .kind) kindCharge) ≡ false ⌝ }
+    ensures { λ r. ⌜ r ≡ groupOf row ⌝ }
+{
+    let kind = row.kind;
+    let lot = kind == Kind::LOT;
+    let apart = lot | (kind == Kind::REQUEST);
+    let party = kept32(owned(kind) | lot, row.party);
+    let id = kept64(numbered(kind) & !apart, row.id);
+    let symbol = kept_symbol(lettered(kind) | apart, row.symbol);
+    of_fields(kind, 0, 0, 0, party, id, symbol)
+}
+
 pub fn of(row: Row) -> Key
     ensures { λ r. ⌜ r ≡ groupOf row ⌝ }
 {
-    if row.kind == Kind::LOT {
-        return of_fields(Kind::LOT, 0, 0, 0, row.party, 0, row.symbol);
+    if (row.kind == Kind::BAND) | (row.kind == Kind::CHARGE) {
+        return of_key(Key::of(row));
     }
-    of_key(Key::of(row))
+    common(row)
 }

@@ -7,13 +7,11 @@ use Prim.Native.Nat.{ℕ, _+_, _-_, _*_, _/_, _≤_, _<_}
 use native.Mathlib.Nat.{zero-add, mul-suc, mul-le-mul-left}
 use native.Mathlib.Numerals.{add-one}
 use native.Mathlib.Omega.{arith}
-use lib.Dec.{eqb}
 use lib.ListN.{length, drop, getD}
 use borrow.Author.Tests.{eq-eqb, eqb-true, eqb-false}
 use Rattle.laws.specs.Chain.{Chained, numbered}
 use Rattle.laws.specs.Search.{place, seek, total}
 use Rattle.laws.specs.Walk.{from, from-high, from-holds, from-low, from-passes, from-skips, left-next, left-none}
-use Rattle.record.specs.Codes.{kindLot}
 use Rattle.rules.specs.Key.{keyOf}
 use Rattle.rules.specs.KeyLaws.{same-keys}
 use Rattle.rules.specs.declared.key.Key.{Key}
@@ -23,7 +21,7 @@ use Rattle.shelf.specs.Loop.{Sought, seek-found, seek-more, seek-none}
 use Rattle.facts.specs.Rows.{length-rows}
 use Rattle.shelf.specs.Rows.{rowAt}
 use Rattle.chains.specs.Chains.{half}
-use Rattle.chains.specs.Group.{bucket-bound, bucketOf, groupOf, keyGroup, mostHeads, rowBucket}
+use Rattle.chains.specs.Group.{apart, bucket-bound, bucketOf, by-key, groupOf, keyGroup, mostHeads, rowBucket}
 
 -- the number of a book's places
 abbrev pub places : List ℕ → ℕ
@@ -248,21 +246,19 @@ own-kind : (r : Row) → keyOf r .kind ≡ r .kind
 unfolding keyOf
 own-kind r = refl
 
-pub key-grouped : (k : Key) → eqb (k .kind) kindLot ≡ false → Grouped (hasKey k) (keyGroup k)
-unfolding hasKey groupOf
+pub key-grouped : (k : Key) → apart (k .kind) ≡ false → Grouped (hasKey k) (keyGroup k)
+unfolding hasKey
 key-grouped k n = record { all = λ r e. go r (same-keys (keyOf r) k e) }
   where
     go : (r : Row) → keyOf r ≡ k → groupOf r ≡ keyGroup k
     go r e =
-        let k : eqb (keyOf r .kind) kindLot ≡ false = ap (λ (x : Key). eqb (x .kind) kindLot) e ∙ n in
-        let o : is kindLot r ≡ false = rw own-kind at k in
-        rw o (ap keyGroup e)
+        let k : apart (keyOf r .kind) ≡ false = ap (λ (x : Key). apart (x .kind)) e ∙ n in
+        by-key r (rw own-kind at k) ∙ ap keyGroup e
 
 -- and of the key of a row
-module _ (r : Row) {k : Key} (n : is kindLot r ≡ false) (e : k ≡ keyOf r) where
-  pub own-lot : eqb (k .kind) kindLot ≡ false
-  own-lot = ap (λ (x : Key). eqb (x .kind) kindLot) e ∙ rw own-kind n
+module _ (r : Row) {k : Key} (n : apart (r .kind) ≡ false) (e : k ≡ keyOf r) where
+  pub own-key : apart (k .kind) ≡ false
+  own-key = ap (λ (x : Key). apart (x .kind)) e ∙ rw own-kind n
 
   pub own-group : (b : List ℕ) (i : ℕ) → r ≡ rowAt b i → groupOf (rowAt b i) ≡ keyGroup k
-  unfolding groupOf
-  own-group b i q = ap groupOf (sym q) ∙ rw (n, e)
+  own-group b i q = ap groupOf (sym q) ∙ by-key r n ∙ ap keyGroup (sym e)

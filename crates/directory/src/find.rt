@@ -2,14 +2,12 @@
 ghost use mathlib.Core.Path.{_≡_};
 ghost use mathlib.Core.Bool.{false};
 ghost use Prim.Native.Nat.{_+_, _<_};
-ghost use lib.Dec.{eqb};
 ghost use lib.ListN.{drop};
 ghost use Rattle.laws.specs.Search.{place, seek};
-ghost use Rattle.record.specs.Codes.{kindLot};
 ghost use Rattle.rules.specs.Key.{keyOf};
-ghost use Rattle.model.specs.Rows.{hasKey, is, rows};
+ghost use Rattle.model.specs.Rows.{hasKey, rows};
 ghost use Rattle.shelf.specs.Rows.{rowAt};
-ghost use Rattle.chains.specs.Group.{keyGroup};
+ghost use Rattle.chains.specs.Group.{apart, keyGroup};
 ghost use Rattle.directory.specs.Listed.{InBucket, Listed, places};
 use chains::chain::next;
 use chains::group;
@@ -33,7 +31,7 @@ fn has(key: Key, row: Row) -> bool
 // The first place of a key from a place of its bucket on.
 fn walk(book: &[u8], dir: &[u16], key: Key, from: usize) -> usize
     requires { ⌜ Listed (now book) (now dir) ⌝ }
-    requires { ⌜ (eqb (key .kind) kindLot ≡ false) × InBucket (now book) (now dir) (keyGroup key) from ⌝ }
+    requires { ⌜ (apart (key .kind) ≡ false) × InBucket (now book) (now dir) (keyGroup key) from ⌝ }
     ensures { λ r. ⌜ r ≡ seek (hasKey key) from (drop from (rows (now (book .entry)))) ⌝ }
 {
     let n = book.len() / Grid::SIZE;
@@ -47,10 +45,10 @@ fn walk(book: &[u8], dir: &[u16], key: Key, from: usize) -> usize
     c
 }
 
-// The place of the first row of a key that is no lot's, the number of places where there is none.
+// The place of the first row of a key that is no lot's and no request's, the number of places where there is none.
 pub fn find(book: &[u8], dir: &[u16], key: Key) -> usize
     requires { ⌜ Listed (now book) (now dir) ⌝ }
-    requires { ⌜ eqb (key .kind) kindLot ≡ false ⌝ }
+    requires { ⌜ apart (key .kind) ≡ false ⌝ }
     ensures { λ r. ⌜ r ≡ place (hasKey key) (rows (now (book .entry))) ⌝ }
 {
     walk(book, dir, key, group::first(dir, group::of_key(key)))
@@ -59,8 +57,12 @@ pub fn find(book: &[u8], dir: &[u16], key: Key) -> usize
 // The next place after i with the key of the row at i, the number of places where there is none.
 pub fn again(book: &[u8], dir: &[u16], i: usize, row: Row) -> usize
     requires { ⌜ Listed (now book) (now dir) ⌝ }
-    requires { ⌜ (i < places (now book)) × (row ≡ rowAt (now book) i) × (is kindLot row ≡ false) ⌝ }
+    requires { ⌜ (i < places (now book)) × (row ≡ rowAt (now book) i) × (apart (row .kind) ≡ false) ⌝ }
     ensures { λ r. ⌜ r ≡ seek (hasKey (keyOf row)) (i + 1) (drop (i + 1) (rows (now (book .entry)))) ⌝ }
 {
-    walk(book, dir, Key::of(row), next(dir, i))
+    let c = next(dir, i);
+    if book.len() / Grid::SIZE <= c {
+        return c;
+    }
+    walk(book, dir, Key::of(row), c)
 }

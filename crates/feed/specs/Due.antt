@@ -3,12 +3,12 @@
 -- trade is pending until an entry hits it. Assumes nothing.
 use mathlib.Core.Path.{_≡_, refl, sym, ap, subst, _∙_}
 use mathlib.Core.Bool.{Bool, true, false, cond, not, _&&_, _||_, false≢true}
-use mathlib.Core.List.{List, [], _∷_, map, List·Memᴰ, List·Memᴰ·head}
-use Prim.Native.Nat.{ℕ, _+_}
+use mathlib.Core.List.{List, [], _∷_, map, List·Memᴰ, List·Memᴰ·head, List·Memᴰ·tail}
+use Prim.Native.Nat.{ℕ, _+_, _<_}
 use native.Mathlib.Nat.{add-zero, zero-add}
 use native.Mathlib.Omega.{arith}
 use lib.Dec.{eqb}
-use lib.ListN.{length}
+use lib.ListN.{length, take, getD}
 use borrow.Author.Tests.{eq-eqb, eqb-true, eqb-false, le-leb}
 use Rattle.laws.specs.Change.{put}
 use Rattle.laws.specs.Keep.{count-has, count-keep, count-none, count-on, count-split, every-keep, keep-from, keep-has}
@@ -28,13 +28,13 @@ use Rattle.facts.specs.Found.{found-again, own-number, found-has}
 use Rattle.facts.specs.Names.{by-id}
 use Rattle.facts.specs.Keys.{kind-of}
 use Rattle.facts.specs.Feed.{pends, pends-submits, pends-traded, submits-keep, traded-keeps}
-use Rattle.feed.specs.Hits.{due, hitBy, hits}
+use Rattle.feed.specs.Hits.{anyReaches, due, firstHit, fresh, hit-one-more, hitBy, hits, hits-is}
 
 -- ---- the requests of a book, none with the number of another, and d tells those that wait no longer
-abbrev Alone : List Row → Type 0
+abbrev pub Alone : List Row → Type 0
 Alone ks = (r t : Row) → List·Memᴰ r ks → List·Memᴰ t ks → r .id ≡ t .id → r ≡ t
 
-record Waiting (ks : List Row) (d : Row → Bool) (rs : List Row) : Type 0 where
+pub record Waiting (ks : List Row) (d : Row → Bool) (rs : List Row) : Type 0 where
   requests : keep (is kindRequest) rs ≡ ks
   waiting : (r : Row) → List·Memᴰ r ks → pends rs (r .id) ≡ not (d r)
 
@@ -50,10 +50,11 @@ four false b c d = refl
 module _ (ks : List Row) (d : Row → Bool) where
   -- the requests that an entry submits, among all requests
   submits-are : (rs : List Row) (e : Row) → Waiting ks d rs → submits rs e ≡ sort lower (keep (chosen rs e) ks)
-  unfolding submits hits
+  unfolding submits
   submits-are rs e w =
       let q : (r : Row) → triggered rs e r ≡ (is kindRequest r && chosen rs e r) =
       λ r. four (is kindRequest r) (pends rs (r .id)) (sameSymbol (r .symbol) (e .symbol)) (reached e r)
+      ∙ ap (λ (x : Bool). is kindRequest r && (pends rs (r .id) && x)) (sym (hits-is e r))
       in
       let k : keep (triggered rs e) rs ≡ keep (λ r. is kindRequest r && chosen rs e r) rs =
       λ j. keep (λ r. q r j) rs
@@ -141,10 +142,63 @@ module _ (ks : List Row) (d : Row → Bool) where
       ∙ count-on (chosen rs e) (λ r. not (d r) && hits e r) ks
       (λ r m. ap (λ (b : Bool). b && hits e r) (u .waiting r m)))
 
+-- ---- the entries in turn
+-- those before the entry numbered i are applied, and the requests that they hit wait no longer
+pub record Going (es : List Row) (i : ℕ) (rs : List Row) : Type 0 where
+  ks : List Row
+  alone : Alone ks
+  waiting : Waiting ks (hitBy (take i es)) rs
+
+keep-on : (p q : Row → Bool) (l : List Row) → ((x : Row) → List·Memᴰ x l → p x ≡ q x) → keep p l ≡ keep q l
+unfolding keep
+keep-on p q [] h = refl
+keep-on p q (x ∷ l) h = rw (h x (List·Memᴰ·head refl), keep-on p q l (λ y m. h y (List·Memᴰ·tail m)))
+
+module _ {es : List Row} {i : ℕ} {rs : List Row} (g : Going es i rs) where
+  abbrev pub entry : Row
+  entry = getD es i nothing
+
+  abbrev pub after-quote : List Row
+  after-quote =
+      put sameRow (found (aSecurity (entry .symbol)) rs) (traded entry (found (aSecurity (entry .symbol)) rs)) rs
+
+  -- what the entry submits, told by the entries
+  pub fresh-submits : sort lower (keep (fresh es i) after-quote) ≡ submits after-quote entry
+  fresh-submits =
+      let d = hitBy (take i es) in
+      let w = after-trade (g .ks) d rs entry (g .waiting) in
+      let kept : keep (fresh es i) after-quote ≡ keep (firstHit es i) (g .ks) =
+      keep-keep (is kindRequest) (firstHit es i) after-quote ∙ ap (keep (firstHit es i)) (w .requests)
+      in
+      let same : keep (firstHit es i) (g .ks) ≡ keep (chosen after-quote entry) (g .ks) =
+      keep-on (firstHit es i) (chosen after-quote entry) (g .ks)
+      (λ r m. turn (hits entry r) (d r) ∙ ap (λ (x : Bool). x && hits entry r) (sym (w .waiting r m)))
+      in
+      ap (sort lower) (kept ∙ same) ∙ sym (submits-are (g .ks) d after-quote entry w)
+    where
+      turn : (a b : Bool) → (a && not b) ≡ (not b && a)
+      turn true true = refl
+      turn true false = refl
+      turn false true = refl
+      turn false false = refl
+
+  pub going-on : i < length es → (n : ℕ) → Going es (i + 1) (applied (record { rows = rs; trades = n }) entry .rows)
+  going-on h n =
+      let w = after-entry (g .ks) (hitBy (take i es)) (g .alone) (record { rows = rs; trades = n }) entry (g .waiting)
+      in
+      record {
+        ks = g .ks;
+        alone = g .alone;
+        waiting = record {
+          requests = w .requests;
+          waiting = λ r m. w .waiting r m ∙ ap not (sym (hit-one-more es i h r));
+        };
+      }
+
 -- ---- all entries
 after-all : (ks : List Row) → Alone ks → (d : Row → Bool) (f : Fed) (es : List Row) → Waiting ks d (f .rows)
     → Waiting ks (λ r. d r || hitBy es r) (run applied f es .rows)
-unfolding run hitBy
+unfolding run anyReaches
 after-all ks one d f [] w = record {
   requests = w .requests;
   waiting = λ r m. w .waiting r m ∙ ap not (sym (or-false (d r)));
@@ -158,7 +212,7 @@ after-all ks one d f (e ∷ es) w =
 
 all-trades : (ks : List Row) → Alone ks → (d : Row → Bool) (f : Fed) (es : List Row) → Waiting ks d (f .rows)
     → run applied f es .trades ≡ f .trades + count (λ r. not (d r) && hitBy es r) ks
-unfolding run hitBy
+unfolding run anyReaches
 all-trades ks one d f [] w =
     let z = count-none (λ r. not (d r) && false) ks (λ r. and-false (not (d r))) in
     sym (ap (λ (n : ℕ). f .trades + n) z ∙ add-zero (f .trades))
@@ -229,6 +283,10 @@ fed rs es = run applied (record { rows = rs; trades = 0 }) es
 module _ (rs es : List Row) (e : sound rs ≡ true) where
   book : SoundBook rs
   book = means-sound rs .shows e
+
+  pub going-start : Going es 0 rs
+  unfolding anyReaches
+  going-start = record { ks = keep (is kindRequest) rs; alone = all-alone rs book; waiting = all-wait rs book }
 
   pub trades-due : run applied (record { rows = rs; trades = 0 }) es .trades ≡ count (due es) rs
   trades-due =

@@ -1,5 +1,6 @@
 pub mod Apply
 pub mod Due
+pub mod Gather
 pub mod Hits
 pub mod Judge
 pub mod Submit

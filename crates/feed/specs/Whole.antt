@@ -7,7 +7,7 @@ use native.Mathlib.Omega.{arith}
 use lib.Dec.{leb}
 use lib.ListN.{length}
 use borrow.Author.Tests.{leb-true}
-use Rattle.laws.specs.Search.{count, keep, length-keep}
+use Rattle.laws.specs.Search.{count, every, keep, length-keep}
 use Rattle.record.specs.Bytes.{Bytes}
 use Rattle.record.specs.Codes.{kindFree}
 use Rattle.record.specs.declared.row.Row.{Row}
@@ -22,8 +22,15 @@ use Rattle.facts.specs.Checks.{decided-done, decided-refused}
 use Rattle.facts.specs.Status.{is-done}
 use Rattle.shelf.specs.Rows.{putAt}
 use Rattle.reply.specs.Left.{answerLeft, bookLeft, left-accepted, left-refused}
-use Rattle.feed.specs.Due.{swept-due, trades-due}
+use Rattle.facts.specs.Found.{sound-s1}
+use Rattle.facts.specs.Rows.{clean-fit}
+use Rattle.directory.specs.Directory.{Directory}
+use Rattle.directory.specs.declared.totals.Totals.{Totals}
+use Rattle.feed.specs.Apply.{Ahead}
+use Rattle.feed.specs.Due.{going-start, swept-due, trades-due}
 use Rattle.feed.specs.Hits.{due}
+use Rattle.feed.specs.Judge.{allKnown, volumeFits}
+use Rattle.feed.specs.Submit.{written-start}
 use Rattle.feed.specs.Sweep.{left}
 
 keep-most : {A : Type 0} (p : A → Bool) (l : List A) → length (keep p l) ≤ length l
@@ -82,3 +89,21 @@ few-trades b n h e =
     let m = keep-most (is kindFree) (rows b) in
     let k = length-rows b in
     omega arith
+
+-- where the checks pass, the entries may be applied
+pub ahead : (b d : List ℕ) (t : Totals) (input : List ℕ) {n : ℕ} → Directory b d t → sound (rows b) ≡ true
+    → n ≡ count (due (rows input)) (rows b)
+    → (allKnown (rows b) (rows input) ≡ true) × (every (volumeFits (rows b) (rows input)) (rows input) ≡ true)
+    × (leb n (room (rows b)) ≡ true)
+    → Ahead b d t input
+ahead b d t input {n} s good c f =
+    let l = leb-true n (room (rows b)) (f .2) in
+    let e = trades-due (rows b) (rows input) good in
+    let r = s .free in
+    let fit = sound-s1 (rows b) good in
+    record {
+      ready = record { directory = s; clean = clean-fit (rows b) fit; written = written-start b fit };
+      fit = record { known = f .0; volumes = f .1 };
+      going = going-start (rows b) (rows input) good;
+      room = omega arith;
+    }

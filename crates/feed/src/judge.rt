@@ -1,54 +1,68 @@
-// What a feed is refused for, told from the book at entry; and how many trades it submits.
+// What a feed is refused for, told from the book at entry, and which entry is the first to hit a request.
 ghost use mathlib.Core.Path.{_≡_};
 ghost use mathlib.Core.Bool.{cond, true};
-ghost use Prim.Native.Nat.{_≤_};
-ghost use lib.ListN.{length};
+ghost use Prim.Native.Nat.{_<_, _≤_};
+ghost use lib.ListN.{length, take};
 ghost use Rattle.laws.specs.Search.{count, every};
 ghost use Rattle.record.specs.Symbol.{sameSymbol};
+ghost use Rattle.kinds.specs.Inputs.{feedInputOf};
 ghost use Rattle.model.specs.Call.{mostInputs};
-ghost use Rattle.model.specs.Rows.{rows, wholeRecords};
+ghost use Rattle.model.specs.Rows.{rows, there, wholeRecords};
+ghost use Rattle.model.specs.Names.{aSecurity};
 ghost use Rattle.model.specs.Plan.{verdict};
 ghost use Rattle.model.specs.Feed.{checks};
 ghost use Rattle.model.specs.Sound.{sound};
 ghost use Rattle.facts.specs.Feed.{sharesFor};
-ghost use Rattle.tables.specs.Bucket.{steadyBucket};
-ghost use Rattle.tables.specs.Table.{Indexed};
-ghost use Rattle.feed.specs.Hits.{due, hitBy, hits};
+ghost use Rattle.shelf.specs.Rows.{rowAt};
+ghost use Rattle.directory.specs.Directory.{Directory};
+ghost use Rattle.directory.specs.Listed.{Listed, places};
+ghost use Rattle.feed.specs.Hits.{anyReaches, due, firstHit, reaches};
 ghost use Rattle.feed.specs.Judge.{allKnown, volumeFits};
+use directory::build::places;
+use directory::totals::Totals;
+use directory::typed::security;
+use kinds::inputs::FeedInput;
 use kinds::limits::Ranges;
+use kinds::rows::Request;
 use model::Status;
-use record::codes::Kind;
 use record::codes::TradeType;
 use record::row::Grid;
-use record::row::Row;
 use record::symbol::Symbol;
 use reply::also;
-use shelf::count::bit;
-use shelf::count::room;
+use shelf::place::record_at;
 use shelf::place::row_at;
-use tables::table::Slots;
-use tables::table::security_at;
-use tables::table::security_there;
+use sorted::request_at;
+
+// The entry at a place of the input.
+pub fn entry_at(input: &[u8], i: usize) -> FeedInput
+    ensures { λ r. ⌜ r ≡ feedInputOf (rowAt (now (input .entry)) i) ⌝ }
+{
+    let record = record_at(input, i);
+    FeedInput::from_bytes(&record)
+}
 
 // The entry is on the request's symbol and reaches its bid.
-pub fn hits(entry: Row, request: Row) -> bool
-    ensures { λ b. ⌜ b ≡ hits entry request ⌝ }
+pub fn hits(entry: FeedInput, request: Request) -> bool
+    ensures { λ b. ⌜ b ≡ reaches entry request ⌝ }
 {
-    let form = request.form;
-    let below = ((form == TradeType::TLB) | (form == TradeType::TSL)) & (entry.n1 <= request.n2);
-    let above = (form == TradeType::TLS) & (request.n2 <= entry.n1);
+    let form = request.trade_type;
+    let price = entry.price.0;
+    let bid = request.bid.0;
+    let below = ((form == TradeType::TLB) | (form == TradeType::TSL)) & (price <= bid);
+    let above = (form == TradeType::TLS) & (bid <= price);
     let own = request.symbol;
     let other = entry.symbol;
     own.same(other) & (below | above)
 }
 
-fn hit_by(input: &[u8], request: Row) -> bool
-    ensures { λ b. ⌜ b ≡ hitBy (rows (now (input .entry))) request ⌝ }
+// One of the first k entries hits the request.
+fn hit_before(input: &[u8], k: usize, request: Request) -> bool
+    requires { ⌜ k ≤ places (now input) ⌝ }
+    ensures { λ b. ⌜ b ≡ anyReaches (take k (rows (now (input .entry)))) request ⌝ }
 {
-    let n = input.len() / Grid::SIZE;
     let mut i = 0;
-    while i < n {
-        if hits(row_at(input, i), request) {
+    while i < k {
+        if hits(entry_at(input, i), request) {
             return true;
         }
         i += 1;
@@ -56,39 +70,35 @@ fn hit_by(input: &[u8], request: Row) -> bool
     false
 }
 
-// The row is a request that some entry submits.
-pub fn due(input: &[u8], row: Row) -> bool
-    ensures { λ b. ⌜ b ≡ due (rows (now (input .entry))) row ⌝ }
+// The entry numbered i is the first that hits the request at a place.
+pub fn first_hit(book: &[u8], input: &[u8], i: usize, place: usize) -> bool
+    requires { ⌜ i < places (now input) ⌝ }
+    ensures { λ b. ⌜ b ≡ firstHit (rows (now (input .entry))) i (rowAt (now (book .entry)) place) ⌝ }
 {
-    if row.kind == Kind::REQUEST {
-        return hit_by(input, row);
+    let request = request_at(book, place);
+    if hits(entry_at(input, i), request) {
+        return !hit_before(input, i, request);
     }
     false
 }
 
-// How many trades the entries submit.
-pub fn submitted(book: &[u8], input: &[u8]) -> usize
-    ensures { λ r. ⌜ r ≡ count (due (rows (now (input .entry)))) (rows (now (book .entry))) ⌝ }
+// The security of the entry at a place is there.
+fn known(book: &[u8], dir: &[u16], input: &[u8], i: usize) -> bool
+    requires { ⌜ Listed (now book) (now dir) ⌝ }
+    ensures { λ b. ⌜ b ≡ there (aSecurity (rowAt (now (input .entry)) i .symbol)) (rows (now (book .entry))) ⌝ }
 {
-    let n = book.len() / Grid::SIZE;
-    let mut sum: usize = 0;
-    let mut i = 0;
-    while i < n {
-        sum += bit(due(input, row_at(book, i)));
-        i += 1;
-    }
-    sum
+    security(book, dir, entry_at(input, i).symbol) < places(book)
 }
 
 // Every entry's security is there.
-fn all_known(book: &[u8], steady: &[u16; Slots::ALL], input: &[u8]) -> bool
-    requires { ⌜ Indexed steadyBucket (now book) (now steady) 0 ⌝ }
+fn all_known(book: &[u8], dir: &[u16], input: &[u8]) -> bool
+    requires { ⌜ Listed (now book) (now dir) ⌝ }
     ensures { λ b. ⌜ b ≡ allKnown (rows (now (book .entry))) (rows (now (input .entry))) ⌝ }
 {
     let n = input.len() / Grid::SIZE;
     let mut i = 0;
     while i < n {
-        if security_there(book, steady, row_at(input, i).symbol) {
+        if known(book, dir, input, i) {
             i += 1;
         } else {
             return false;
@@ -97,10 +107,13 @@ fn all_known(book: &[u8], steady: &[u16; Slots::ALL], input: &[u8]) -> bool
     true
 }
 
-// The shares of an entry, if it is on the symbol.
-fn shares(symbol: Symbol, entry: Row) -> u64
-    ensures { λ r. ⌜ (r ≡ cond (sameSymbol (entry .symbol) symbol) (entry .n2) 0) × (r ≤ 4294967295) ⌝ }
+// The shares of the entry at a place, if it is on the symbol.
+fn shares_at(input: &[u8], symbol: Symbol, i: usize) -> u64
+    ensures { λ r.
+        let e = rowAt (now (input .entry)) i in
+        ⌜ (r ≡ cond (sameSymbol (e .symbol) symbol) (e .n2) 0) × (r ≤ 4294967295) ⌝ }
 {
+    let entry = row_at(input, i);
     let own = entry.symbol;
     if own.same(symbol) { entry.n2 as u64 } else { 0 }
 }
@@ -114,28 +127,31 @@ fn shares_for(input: &[u8], symbol: Symbol) -> u64
     let mut sum: u64 = 0;
     let mut i = 0;
     while i < n {
-        sum += shares(symbol, row_at(input, i));
+        sum += shares_at(input, symbol, i);
         i += 1;
     }
     sum
 }
 
-// The volume of the entry's security stays in its range.
-fn volume_fits(book: &[u8], steady: &[u16; Slots::ALL], input: &[u8], entry: Row) -> bool
-    requires { ⌜ Indexed steadyBucket (now book) (now steady) 0 ⌝ }
+// The volume of the security of the entry at a place stays in its range.
+fn volume_fits(book: &[u8], dir: &[u16], input: &[u8], i: usize) -> bool
+    requires { ⌜ Listed (now book) (now dir) ⌝ }
     requires { ⌜ wholeRecords mostInputs (length (now input)) ≡ true ⌝ }
-    ensures { λ b. ⌜ b ≡ volumeFits (rows (now (book .entry))) (rows (now (input .entry))) entry ⌝ }
+    ensures { λ b.
+        let entries = now (input .entry) in
+        ⌜ b ≡ volumeFits (rows (now (book .entry))) (rows entries) (rowAt entries i) ⌝ }
 {
-    let more = shares_for(input, entry.symbol);
-    let security = row_at(book, security_at(book, steady, entry.symbol));
+    let symbol = entry_at(input, i).symbol;
+    let more = shares_for(input, symbol);
+    let security = row_at(book, security(book, dir, symbol));
     if more <= Ranges::VOLUME_MOST {
         return security.m1 <= Ranges::VOLUME_MOST - more;
     }
     false
 }
 
-fn volumes_fit(book: &[u8], steady: &[u16; Slots::ALL], input: &[u8]) -> bool
-    requires { ⌜ Indexed steadyBucket (now book) (now steady) 0 ⌝ }
+fn volumes_fit(book: &[u8], dir: &[u16], input: &[u8]) -> bool
+    requires { ⌜ Listed (now book) (now dir) ⌝ }
     requires { ⌜ wholeRecords mostInputs (length (now input)) ≡ true ⌝ }
     ensures { λ b.
         let entries = rows (now (input .entry)) in
@@ -144,7 +160,7 @@ fn volumes_fit(book: &[u8], steady: &[u16; Slots::ALL], input: &[u8]) -> bool
     let n = input.len() / Grid::SIZE;
     let mut i = 0;
     while i < n {
-        if volume_fits(book, steady, input, row_at(input, i)) {
+        if volume_fits(book, dir, input, i) {
             i += 1;
         } else {
             return false;
@@ -154,8 +170,8 @@ fn volumes_fit(book: &[u8], steady: &[u16; Slots::ALL], input: &[u8]) -> bool
 }
 
 // The checks of the rules, one after the other, of a feed that submits so many trades.
-pub fn judge(book: &[u8], steady: &[u16; Slots::ALL], input: &[u8], trades: usize) -> Status
-    requires { ⌜ Indexed steadyBucket (now book) (now steady) 0 ⌝ }
+pub fn judge(book: &[u8], dir: &[u16], t: Totals, input: &[u8], trades: usize) -> Status
+    requires { ⌜ Directory (now book) (now dir) t ⌝ }
     requires { ⌜ wholeRecords mostInputs (length (now input)) ≡ true ⌝ }
     requires { ⌜ sound (rows (now book)) ≡ true ⌝ }
     requires { ⌜ trades ≡ count (due (rows (now input))) (rows (now book)) ⌝ }
@@ -163,9 +179,9 @@ pub fn judge(book: &[u8], steady: &[u16; Slots::ALL], input: &[u8], trades: usiz
 {
     let s1 = also(
         Status::Done,
-        all_known(book, steady, input),
+        all_known(book, dir, input),
         Status::FeedNoSecurity,
     );
-    let s2 = also(s1, volumes_fit(book, steady, input), Status::OverLimit);
-    also(s2, trades <= room(book), Status::NoRoom)
+    let s2 = also(s1, volumes_fit(book, dir, input), Status::OverLimit);
+    also(s2, trades <= t.free, Status::NoRoom)
 }

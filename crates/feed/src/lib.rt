@@ -8,24 +8,25 @@ ghost use Rattle.model.specs.Feed.{answerRow, feed};
 ghost use Rattle.model.specs.Rows.{mostRecords, recordSize, rows, wholeRecords};
 ghost use Rattle.model.specs.Sound.{sound};
 ghost use Rattle.reply.specs.Left.{answerLeft, bookLeft};
-ghost use Rattle.tables.specs.Bucket.{steadyBucket};
-ghost use Rattle.tables.specs.Table.{Indexed};
+ghost use Rattle.directory.specs.Directory.{Directory};
 
+pub mod gather;
 pub mod judge;
 pub mod post;
+pub mod sweep;
 
+use crate::gather::submitted;
 use crate::judge::judge;
-use crate::judge::submitted;
 use crate::post::apply_all;
-use crate::post::sweep;
-use model::Status;
+use crate::sweep::sweep;
+use directory::totals::Totals;
 use record::codes::Kind;
 use record::row::Grid;
 use record::row::Row;
+use reply::Ended;
 use reply::done;
 use shelf::place::nothing;
 use shelf::put::put;
-use tables::table::Slots;
 
 fn answer_row(entries: usize, trades: usize) -> Row
     requires { ⌜ (entries < 4294967296) × (trades < 4294967296) ⌝ }
@@ -40,25 +41,26 @@ fn answer_row(entries: usize, trades: usize) -> Row
 
 // What a feed gives on a book that is sound: the book and the answer of the rules, and where it is refused both areas
 // as they were.
-pub fn feed(book: &mut [u8], steady: &[u16; Slots::ALL], input: &[u8], answer: &mut [u8]) -> Status
-    requires { ⌜ Indexed steadyBucket (now book) (now steady) 0 ⌝ }
+pub fn feed(book: &mut [u8], dir: &mut [u16], t: Totals, input: &[u8], answer: &mut [u8]) -> Ended
+    requires { ⌜ Directory (now book) (now dir) t ⌝ }
     requires { ⌜ (sound (rows (now book)) ≡ true) × (wholeRecords mostRecords (length (now book)) ≡ true) ⌝ }
     requires { ⌜ (wholeRecords mostInputs (length (now input)) ≡ true) × (length (now answer) ≡ recordSize) ⌝ }
-    ensures { λ s. ⌜ s ≡ feed (rows (now (book .entry))) (rows (now (input .entry))) .status ⌝ }
+    ensures { λ r. ⌜ r .status ≡ feed (rows (now (book .entry))) (rows (now (input .entry))) .status ⌝ }
     ensures { λ _.
         ⌜ now (book .exit)
         ≡ bookLeft (feed (rows (now (book .entry))) (rows (now (input .entry)))) (now (book .entry)) ⌝ }
     ensures { λ _.
         ⌜ now (answer .exit)
         ≡ answerLeft (feed (rows (now (book .entry))) (rows (now (input .entry)))) (now (answer .entry)) ⌝ }
+    ensures { λ r. ⌜ Directory (now (book .exit)) (now (dir .exit)) (r .totals) ⌝ }
 {
-    let trades = submitted(book, input);
-    let s = judge(book, steady, input, trades);
-    if done(s) {
-        apply_all(book, steady, input);
-        sweep(book, input);
+    let trades = submitted(book, dir, input);
+    let status = judge(book, dir, t, input, trades);
+    if done(status) {
+        let applied = apply_all(book, dir, t, input);
+        let totals = sweep(book, dir, applied, input);
         put(answer, 0, answer_row(input.len() / Grid::SIZE, trades));
-        return s;
+        return Ended { status, totals };
     }
-    s
+    Ended { status, totals: t }
 }

@@ -1,198 +1,174 @@
-// The entries of a feed applied to the book: securities and trades change where they stand, a history row is added for
-// each trade that is submitted, and the requests that no longer wait leave last, so that no place that the call frees
-// serves it.
+// The entries of a feed applied to the book: securities and trades change where they stand, and a history row is added
+// for each trade that is submitted.
 ghost use mathlib.Core.Path.{_≡_};
-ghost use mathlib.Core.Bool.{false, true};
-ghost use mathlib.Core.List.{map};
-ghost use Prim.Native.Nat.{_+_, _≤_, _<_};
-ghost use lib.ListN.{set};
-ghost use Rattle.laws.specs.Change.{put};
-ghost use Rattle.laws.specs.Search.{every, run};
+ghost use mathlib.Core.Bool.{true};
+ghost use Prim.Native.Nat.{_+_, _≤_};
+ghost use lib.IntN.{pos};
+ghost use lib.ListN.{length, take};
+ghost use Rattle.laws.specs.Search.{run};
+ghost use Rattle.record.specs.Signed.{up};
 ghost use Rattle.rules.specs.Ranges.{volume};
-ghost use Rattle.model.specs.Feed.{applied, traded, triggered};
+ghost use Rattle.kinds.specs.Kinds.{requestOf, securityOf, tradeOf};
+ghost use Rattle.kinds.specs.Units.{shares};
+ghost use Rattle.model.specs.Feed.{fed};
 ghost use Rattle.model.specs.Names.{aSecurity, aTrade};
-ghost use Rattle.model.specs.Rows.{found, rows, sameRow, there};
-ghost use Rattle.queue.specs.Queue.{queueMost, queued};
+ghost use Rattle.model.specs.Rows.{found, rows, there};
 ghost use Rattle.shelf.specs.Rows.{rowAt};
-ghost use Rattle.tables.specs.Bucket.{steadyBucket};
-ghost use Rattle.tables.specs.Table.{Indexed};
-ghost use Rattle.feed.specs.Apply.{Fits, Keeps, Ready, gathered};
-ghost use Rattle.feed.specs.Submit.{submitMark};
-ghost use Rattle.feed.specs.Sweep.{left};
-use crate::judge::due;
-use crate::judge::hits;
-use queue::Queue;
-use queue::admit;
-use record::bytes::wide32;
-use record::codes::Kind;
+ghost use Rattle.directory.specs.Directory.{Directory};
+ghost use Rattle.feed.specs.Apply.{Ahead, Applied, Entry};
+ghost use Rattle.feed.specs.Submit.{Asking, Ready, Sent, numbers, quotedBy, sentIn};
+use crate::gather::submits;
+use crate::judge::entry_at;
+use directory::build::places;
+use directory::change::add;
+use directory::change::change;
+use directory::totals::Totals;
+use directory::typed::security;
+use directory::typed::trade;
+use kinds::inputs::FeedInput;
+use kinds::rows::Security;
+use kinds::rows::Trade;
+use kinds::rows::TradeHistory;
+use kinds::units::Shares;
+use kinds::units::Time;
+use kinds::units::TradeNo;
 use record::codes::TradeStatus;
-use record::row::Grid;
-use record::row::Row;
-use shelf::history::history;
-use shelf::place::nothing;
-use shelf::place::row_at;
-use shelf::put::add;
-use shelf::put::put;
-use tables::table::Slots;
-use tables::table::security_at;
-use tables::table::trade_at;
+use shelf::place::record_at;
+use sorted::Sorted;
+use sorted::request_at;
+
+// The row at a place as a security.
+fn security_at(book: &[u8], i: usize) -> Security
+    ensures { λ r. ⌜ r ≡ securityOf (rowAt (now (book .entry)) i) ⌝ }
+{
+    let record = record_at(book, i);
+    Security::from_bytes(&record)
+}
+
+// The row at a place as a trade.
+fn trade_at(book: &[u8], i: usize) -> Trade
+    ensures { λ r. ⌜ r ≡ tradeOf (rowAt (now (book .entry)) i) ⌝ }
+{
+    let record = record_at(book, i);
+    Trade::from_bytes(&record)
+}
+
+// A volume and the shares of an entry.
+fn sum(before: Shares, more: Shares) -> Shares
+    requires { ⌜ up (before .0) + up (more .0) ≤ volume .high ⌝ }
+    ensures { λ r. ⌜ r ≡ shares (pos (up (before .0) + up (more .0))) ⌝ }
+{
+    Shares::of(before.plain() + more.plain())
+}
 
 // The last price, time and volume of the entry's security.
-fn quote(book: &mut [u8], steady: &[u16; Slots::ALL], entry: Row)
-    requires { ⌜ Indexed steadyBucket (now book) (now steady) 0 ⌝ }
+fn quote(book: &mut [u8], dir: &[u16], t: Totals, entry: FeedInput)
+    requires { ⌜ Ready (now book) (now dir) t ⌝ }
     requires { ⌜ there (aSecurity (entry .symbol)) (rows (now book)) ≡ true ⌝ }
-    requires { ⌜ found (aSecurity (entry .symbol)) (rows (now book)) .m1 + entry .n2 ≤ volume .high ⌝ }
-    ensures { λ _.
-        let rs = rows (now (book .entry)) in
-        let s = found (aSecurity (entry .symbol)) rs in
-        ⌜ rows (now (book .exit)) ≡ put sameRow s (traded entry s) rs ⌝ }
-    ensures { λ _. ⌜ Keeps (now (book .entry)) (now (book .exit)) (now (steady .entry)) ⌝ }
+    requires { ⌜ found (aSecurity (entry .symbol)) (rows (now book)) .m1 + up (entry .shares .0) ≤ volume .high ⌝ }
+    ensures { λ _. ⌜ rows (now (book .exit)) ≡ quotedBy entry (rows (now (book .entry))) ⌝ }
+    ensures { λ _. ⌜ Ready (now (book .exit)) (now (dir .entry)) t ⌝ }
 {
-    let at = security_at(book, steady, entry.symbol);
-    let mut s = row_at(book, at);
-    s.n1 = entry.n1;
-    s.m1 = s.m1 + wide32(entry.n2);
-    s.time = entry.time;
-    put(book, at, s);
+    let at = security(book, dir, entry.symbol);
+    let was = security_at(book, at);
+    let volume = sum(was.volume, entry.shares);
+    let symbol = was.symbol;
+    let last_price = entry.price;
+    let time = entry.time;
+    let next = Security {
+        symbol,
+        exchange: was.exchange,
+        last_price,
+        volume,
+        time,
+    };
+    change(book, dir, t, at, next.row());
 }
 
-// The row is a request that waits, and the entry submits it.
-fn triggered(book: &[u8], steady: &[u16; Slots::ALL], entry: Row, row: Row) -> bool
-    requires { ⌜ Indexed steadyBucket (now book) (now steady) 0 ⌝ }
-    ensures { λ r. ⌜ r ≡ triggered (rows (now (book .entry))) entry row ⌝ }
+// A trade is submitted, of which there is one.
+fn submit(book: &mut [u8], dir: &mut [u16], t: Totals, time: Time, no: TradeNo) -> Totals
+    requires { ⌜ Ready (now book) (now dir) t × (1 ≤ t .free) ⌝ }
+    requires { ⌜ there (aTrade (no .0)) (rows (now book)) ≡ true ⌝ }
+    ensures { λ r. ⌜ Sent (time .0) (no .0) (now (book .entry)) t (now (book .exit)) (now (dir .exit)) r ⌝ }
 {
-    if (row.kind == Kind::REQUEST) & hits(entry, row) {
-        let t = row_at(book, trade_at(book, steady, row.id));
-        return t.status == TradeStatus::PENDING;
-    }
-    false
+    let history = TradeHistory {
+        no,
+        status: TradeStatus::SUBMITTED,
+        time,
+    };
+    let more = add(book, dir, t, history.row());
+    let at = trade(book, dir, no);
+    let mut next = trade_at(book, at);
+    next.status = TradeStatus::SUBMITTED;
+    next.time = time;
+    change(book, dir, more, at, next.row());
+    more
 }
 
-// The numbers of the trades that an entry submits, the lowest last.
-fn gather(
-    book: &[u8],
-    steady: &[u16; Slots::ALL],
-    entry: Row,
-    times: &mut [u32; Queue::MOST],
-    ids: &mut [u64; Queue::MOST],
-) -> usize
-    requires { ⌜ Indexed steadyBucket (now book) (now steady) 0 ⌝ }
-    ensures { λ r. ⌜ r ≤ queueMost ⌝ }
-    ensures { λ r. ⌜ queued (now (times .exit)) (now (ids .exit)) r ≡ gathered (rows (now (book .entry))) entry ⌝ }
+fn number(book: &[u8], place: u16) -> TradeNo
+    ensures { λ r. ⌜ r ≡ requestOf (rowAt (now (book .entry)) place) .no ⌝ }
 {
-    let mut n = 0;
-    let mut i = book.len() / Grid::SIZE;
-    while 0 < i {
-        let j = i - 1;
-        let row = row_at(book, j);
-        let chosen = triggered(book, steady, entry, row);
-        n = admit(times, ids, n, false, chosen, entry.time, row.id);
-        i = j;
-    }
-    n
+    request_at(book, place as usize).no
 }
 
-// A trade is submitted. The answer is where the next search for a free place begins.
-fn submit(book: &mut [u8], steady: &[u16; Slots::ALL], time: u32, id: u64, from: usize) -> usize
-    requires { ⌜ Ready (now book) (now steady) from ⌝ }
-    requires { ⌜ there (aTrade id) (rows (now book)) ≡ true ⌝ }
-    ensures { λ _. ⌜ rows (now (book .exit)) ≡ submitMark (rows (now (book .entry))) (time, id) ⌝ }
-    ensures { λ r. ⌜ Ready (now (book .exit)) (now (steady .entry)) r ⌝ }
-{
-    let next = add(book, from, history(TradeStatus::SUBMITTED, id, time));
-    let at = trade_at(book, steady, id);
-    let mut t = row_at(book, at);
-    t.status = TradeStatus::SUBMITTED;
-    t.time = time;
-    put(book, at, t);
-    next
-}
-
-// The trades of a queue, by rising number.
+// The trades of the requests at the first n places, one after the other.
 fn submit_all(
     book: &mut [u8],
-    steady: &[u16; Slots::ALL],
-    times: &[u32; Queue::MOST],
-    ids: &[u64; Queue::MOST],
+    dir: &mut [u16],
+    t: Totals,
+    at: &[u16],
     n: usize,
-    from: usize,
-) -> usize
-    requires { ⌜ Ready (now book) (now steady) from ⌝ }
-    requires { ⌜ n ≤ queueMost ⌝ }
-    requires { ⌜ every (λ m. there (aTrade (m .1)) (rows (now book))) (queued (now times) (now ids) n) ≡ true ⌝ }
+    time: Time,
+) -> Totals
+    requires { ⌜ Ready (now book) (now dir) t × (n ≤ t .free) × (n ≤ length (now at)) ⌝ }
+    requires { ⌜ Asking (now book) (now at) n ⌝ }
     ensures { λ _.
         ⌜ rows (now (book .exit))
-        ≡ run submitMark (rows (now (book .entry))) (queued (now (times .entry)) (now (ids .entry)) n) ⌝ }
-    ensures { λ r. ⌜ Ready (now (book .exit)) (now (steady .entry)) r ⌝ }
+        ≡ run (sentIn (time .0)) (rows (now (book .entry)))
+        (numbers (now (book .entry)) (take n (now (at .entry)))) ⌝ }
+    ensures { λ r. ⌜ Ready (now (book .exit)) (now (dir .exit)) r × (r .free + n ≡ t .free) ⌝ }
 {
-    let mut next = from;
-    let mut i = n;
-    while 0 < i {
-        let j = i - 1;
-        next = submit(book, steady, times[j], ids[j], next);
-        i = j;
+    let mut left = t;
+    let mut k = 0;
+    while k < n {
+        let no = number(book, at[k]);
+        left = submit(book, dir, left, time, no);
+        k += 1;
     }
-    next
+    left
 }
 
 fn apply(
     book: &mut [u8],
-    steady: &[u16; Slots::ALL],
-    entry: Row,
-    times: &mut [u32; Queue::MOST],
-    ids: &mut [u64; Queue::MOST],
-    from: usize,
-) -> usize
-    requires { ⌜ Ready (now book) (now steady) from ⌝ }
-    requires { ⌜ there (aSecurity (entry .symbol)) (rows (now book)) ≡ true ⌝ }
-    requires { ⌜ found (aSecurity (entry .symbol)) (rows (now book)) .m1 + entry .n2 ≤ volume .high ⌝ }
-    ensures { λ _.
-        ⌜ rows (now (book .exit)) ≡ applied (record { rows = rows (now (book .entry)); trades = 0 }) entry .rows ⌝ }
-    ensures { λ r. ⌜ Ready (now (book .exit)) (now (steady .entry)) r ⌝ }
+    dir: &mut [u16],
+    t: Totals,
+    input: &[u8],
+    i: usize,
+    at: &mut [u16; Sorted::MOST],
+) -> Totals
+    requires { ⌜ Entry (now book) (now dir) t (now input) i ⌝ }
+    ensures { λ r.
+        ⌜ Applied (rowAt (now (input .entry)) i) (now (book .entry)) t (now (book .exit)) (now (dir .exit)) r ⌝ }
 {
-    quote(book, steady, entry);
-    let n = gather(book, steady, entry, times, ids);
-    submit_all(book, steady, times, ids, n, from)
+    let entry = entry_at(input, i);
+    quote(book, dir, t, entry);
+    let n = submits(book, dir, input, i, at);
+    submit_all(book, dir, t, at, n, entry.time)
 }
 
 // The entries in turn.
-pub fn apply_all(book: &mut [u8], steady: &[u16; Slots::ALL], input: &[u8])
-    requires { ⌜ Ready (now book) (now steady) 0 ⌝ }
-    requires { ⌜ Fits (rows (now book)) (rows (now input)) ⌝ }
-    ensures { λ _.
-        ⌜ rows (now (book .exit))
-        ≡ run applied (record { rows = rows (now (book .entry)); trades = 0 }) (rows (now (input .entry))) .rows ⌝ }
+pub fn apply_all(book: &mut [u8], dir: &mut [u16], t: Totals, input: &[u8]) -> Totals
+    requires { ⌜ Ahead (now book) (now dir) t (now input) ⌝ }
+    ensures { λ _. ⌜ rows (now (book .exit)) ≡ fed (rows (now (book .entry))) (rows (now (input .entry))) .rows ⌝ }
+    ensures { λ r. ⌜ Directory (now (book .exit)) (now (dir .exit)) r ⌝ }
 {
-    let mut times = [0u32; Queue::MOST];
-    let mut ids = [0u64; Queue::MOST];
-    let n = input.len() / Grid::SIZE;
-    let mut from = 0;
+    let mut at = [0u16; Sorted::MOST];
+    let n = places(input);
+    let mut left = t;
     let mut i = 0;
     while i < n {
-        from = apply(book, steady, row_at(input, i), &mut times, &mut ids, from);
+        left = apply(book, dir, left, input, i, &mut at);
         i += 1;
     }
-}
-
-// A request that was submitted leaves.
-fn sweep_one(book: &mut [u8], input: &[u8], i: usize)
-    ensures { λ _.
-        ⌜ rows (now (book .exit))
-        ≡ set (rows (now (book .entry))) i (left (rows (now (input .entry))) (rowAt (now (book .entry)) i)) ⌝ }
-{
-    if due(input, row_at(book, i)) {
-        put(book, i, nothing());
-    }
-}
-
-// The requests that were submitted leave.
-pub fn sweep(book: &mut [u8], input: &[u8])
-    ensures { λ _. ⌜ rows (now (book .exit)) ≡ map (left (rows (now (input .entry)))) (rows (now (book .entry))) ⌝ }
-{
-    let n = book.len() / Grid::SIZE;
-    let mut i = 0;
-    while i < n {
-        sweep_one(book, input, i);
-        i += 1;
-    }
+    left
 }

@@ -1,6 +1,9 @@
-// The rules of what trade leaves: trades, requests, histories, lots, summaries, settlements and cash.
+// The rules of what trade leaves: trades, requests, histories, lots, summaries, settlements and cash. How a symbol is
+// spelled is left out.
 ghost use mathlib.Core.Path.{_≡_};
-ghost use Rattle.rules.specs.Rules.{cash, lot, lotHistory, request, settlement, summary, trade, tradeHistory};
+ghost use Rattle.rules.specs.Rules.{cash, lotHistory, lotShape, obeys, requestShape, settlement, summaryShape};
+ghost use Rattle.rules.specs.Rules.{tradeHistory, tradeShape};
+ghost use Rattle.fields.specs.Unspelt.{unspelt};
 use kinds::limits::Ranges;
 use kinds::rows::Cash;
 use kinds::rows::Lot;
@@ -18,20 +21,17 @@ use rules::limited::near32;
 use rules::limited::near64;
 
 pub fn trade(r: Row) -> bool
-    ensures { λ b. ⌜ b ≡ trade r ⌝ }
+    ensures { λ b. ⌜ b ≡ obeys (unspelt tradeShape) r ⌝ }
 {
-    let symbol = r.symbol;
     in_limits(r, Trade::LIMITS)
         & alike(r.n3 != 0, r.status == TradeStatus::COMPLETED)
         & ((r.m2 == 0) | (r.status == TradeStatus::COMPLETED))
-        & symbol.ok()
 }
 
 pub fn request(r: Row) -> bool
-    ensures { λ b. ⌜ b ≡ request r ⌝ }
+    ensures { λ b. ⌜ b ≡ obeys (unspelt requestShape) r ⌝ }
 {
-    let symbol = r.symbol;
-    in_limits(r, Request::LIMITS) & symbol.ok()
+    in_limits(r, Request::LIMITS)
 }
 
 pub fn trade_history(r: Row) -> bool
@@ -41,17 +41,15 @@ pub fn trade_history(r: Row) -> bool
 }
 
 pub fn lot(r: Row) -> bool
-    ensures { λ b. ⌜ b ≡ lot r ⌝ }
+    ensures { λ b. ⌜ b ≡ obeys (unspelt lotShape) r ⌝ }
 {
-    let symbol = r.symbol;
-    in_limits(r, Lot::LIMITS) & (r.m1 != 0) & near64(r.m1, Ranges::SHARES_MOST as u64) & symbol.ok()
+    in_limits(r, Lot::LIMITS) & (r.m1 != 0) & near64(r.m1, Ranges::SHARES_MOST as u64)
 }
 
 pub fn summary(r: Row) -> bool
-    ensures { λ b. ⌜ b ≡ summary r ⌝ }
+    ensures { λ b. ⌜ b ≡ obeys (unspelt summaryShape) r ⌝ }
 {
-    let symbol = r.symbol;
-    in_limits(r, Summary::LIMITS) & (r.m1 != 0) & symbol.ok()
+    in_limits(r, Summary::LIMITS) & (r.m1 != 0)
 }
 
 pub fn lot_history(r: Row) -> bool

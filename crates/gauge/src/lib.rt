@@ -3,8 +3,8 @@ ghost use mathlib.Core.Path.{_≡_};
 ghost use Rattle.model.specs.Rows.{mostRecords};
 ghost use Rattle.model.specs.Status.{number};
 ghost use Rattle.model.specs.Tally.{bookStatus};
+use kinds::limits::Ranges;
 use reply::code;
-use sound::whole::Most;
 use sound::whole::status;
 
 // 0 where the book is sound, and the number of its refusal where it is not.
@@ -12,5 +12,5 @@ use sound::whole::status;
 pub extern "C" fn book_status(book: &[u8]) -> i32
     ensures { λ r. ⌜ r ≡ number (bookStatus mostRecords (now (book .entry))) ⌝ }
 {
-    code(status(book, Most::RECORDS))
+    code(status(book, Ranges::RECORDS))
 }

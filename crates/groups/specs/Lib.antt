@@ -1,1 +1,2 @@
+pub mod Collect
 pub mod Sums

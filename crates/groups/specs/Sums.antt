@@ -5,16 +5,16 @@ use mathlib.Core.Bool.{Bool, true, false, cond, _&&_}
 use mathlib.Core.List.{List}
 use Prim.Native.Nat.{ℕ, _+_, _-_, _*_, _/_, _≤_, _<_}
 use native.Mathlib.Omega.{arith}
-use lib.Dec.{eqb, leb, ltb}
+use lib.Dec.{eqb, leb}
 use lib.IntN.{ℤ, pos, negsuc, natAbs}
 use lib.ListN.{length}
 use mir.Facts.{toZ-pos}
 use mir.Syntax.{w64}
 use mir.Val.{toZ}
 use borrow.Author.Tests.{eqb-true}
-use Rattle.laws.specs.Search.{bit, count, total}
+use Rattle.laws.specs.Search.{bit, total}
 use Rattle.laws.specs.Tests.{and-left, and-right}
-use Rattle.record.specs.Codes.{kindBand, kindCustomerRate, kindLot, kindTradeHistory}
+use Rattle.record.specs.Codes.{kindBand, kindCustomerRate, kindLot, kindRequest}
 use Rattle.rules.specs.Key.{keyOf}
 use Rattle.record.specs.Signed.{up, dn, toZ-high}
 use Rattle.rules.specs.declared.key.Key.{Key}
@@ -25,14 +25,14 @@ use Rattle.rules.specs.Meaning.{means-lot}
 use Rattle.rules.specs.Ranges.{sharesMost}
 use Rattle.rules.specs.Rules.{as-kind, fits}
 use Rattle.model.specs.Band.{bandFor}
-use Rattle.model.specs.Names.{aHistory, aTaxRate}
-use Rattle.model.specs.Rows.{found, hasKey, is, mostRecords, nothing, rows, there}
+use Rattle.model.specs.Names.{aTaxRate}
+use Rattle.model.specs.Rows.{found, is, mostRecords, nothing, rows}
 use Rattle.model.specs.Sound.{lotOf, overlaps, rateOf, s1}
 use Rattle.facts.specs.Rows.{length-rows}
 use Rattle.shelf.specs.Rows.{rowAt}
-use Rattle.chains.specs.Group.{aGroup, groupOf, keyGroup, lotGroup}
+use Rattle.chains.specs.Group.{aGroup, groupOf, keyGroup, lotGroup, requestGroup}
 use Rattle.directory.specs.Listed.{Counted, Grouped, only-grouped}
-use Rattle.facts.specs.Names.{by-status, ofId, ofParty}
+use Rattle.facts.specs.Names.{ofParty}
 use Rattle.laws.specs.Place.{every-at}
 
 -- ---- the groups that are walked
@@ -41,9 +41,6 @@ bandGroup form tier exchange = aGroup kindBand form tier exchange 0 0 noSymbol
 
 abbrev pub rateGroup : ℕ → Key
 rateGroup customer = aGroup kindCustomerRate 0 0 0 customer 0 noSymbol
-
-abbrev pub historyGroup : ℕ → Key
-historyGroup id = aGroup kindTradeHistory 0 0 0 0 id noSymbol
 
 -- of the tests of a band, those that tell its group
 band-tests : (kind form tier exchange x y : Bool) → (kind && form && tier && exchange && x && y) ≡ true
@@ -65,13 +62,13 @@ rate-group : (customer : ℕ) (r : Row) → r .kind ≡ kindCustomerRate → r .
 unfolding groupOf keyGroup keyOf
 rate-group customer r k e = rw (k, e)
 
-history-group : (i : ℕ) (r : Row) → r .kind ≡ kindTradeHistory → r .id ≡ i → groupOf r ≡ historyGroup i
-unfolding groupOf keyGroup keyOf
-history-group i r k e = rw (k, e)
-
 lot-group : (a : ℕ) (y : Symbol) (r : Row) → r .kind ≡ kindLot → r .party ≡ a → r .symbol ≡ y → groupOf r ≡ lotGroup a y
 unfolding groupOf
 lot-group a y r k ea ey = rw (k, ea, ey)
+
+request-group : (y : Symbol) (r : Row) → r .kind ≡ kindRequest → r .symbol ≡ y → groupOf r ≡ requestGroup y
+unfolding groupOf
+request-group y r k e = rw (k, e)
 
 -- of two tests that hold, what each says of a row's fields
 both-eq : (a x b y : ℕ) → (eqb a x && eqb b y) ≡ true → (a ≡ x) × (b ≡ y)
@@ -185,51 +182,32 @@ part-yes owed account symbol r f h e q =
     let m = side-most owed (r .m1) sharesMost (lot-most r (eqb-true (r .kind) kindLot k) f) in
     (rw yes q, rw q m)
 
-pub part-no : (owed : Bool) (account : ℕ) (symbol : Symbol) (r : Row) {t : Bool} → t ≡ lotOf account symbol r → t ≡ false
+pub part-no : (owed : Bool) (account : ℕ) (symbol : Symbol) (r : Row) {t : Bool} → t ≡ lotOf account symbol r
+    → t ≡ false
     → 0 ≡ sharesPart owed account symbol r
 part-no owed account symbol r h e = rw (sym h ∙ e)
 
-pub lots-counted : (account : ℕ) (symbol : Symbol) → Counted (λ r. bit (lotOf account symbol r)) 1 (lotGroup account symbol)
+pub lots-counted : (account : ℕ) (symbol : Symbol)
+    → Counted (λ r. bit (lotOf account symbol r)) 1 (lotGroup account symbol)
 lots-counted account symbol =
     only-grouped (lotOf account symbol) (λ r. bit (lotOf account symbol r)) 1 (lotGroup account symbol)
     (lots-grouped account symbol) (λ r q. rw q)
 
--- the lots of an account and symbol that have a number
-abbrev pub lotNumbered : ℕ → Symbol → ℕ → Row → Bool
-lotNumbered account symbol id r = lotOf account symbol r && eqb (r .id) id
+-- ---- rows in turn
+abbrev pub requestOn : Symbol → Row → Bool
+requestOn symbol r = is kindRequest r && sameSymbol (r .symbol) symbol
 
-pub numbered-grouped : (account : ℕ) (symbol : Symbol) (id : ℕ) → Grouped (lotNumbered account symbol id) (lotGroup account symbol)
-numbered-grouped account symbol id = record {
-  all = λ r e. lots-grouped account symbol .all r (and-left (lotOf account symbol r) (eqb (r .id) id) e);
+pub requests-grouped : (symbol : Symbol) → Grouped (requestOn symbol) (requestGroup symbol)
+requests-grouped symbol = record {
+  all = λ r e.
+      request-group symbol r
+      (eqb-true (r .kind) kindRequest (and-left (is kindRequest r) (sameSymbol (r .symbol) symbol) e))
+      (same-symbol (r .symbol) symbol (and-right (is kindRequest r) (sameSymbol (r .symbol) symbol) e));
 }
 
--- ---- histories
-abbrev pub higherThan : ℕ → ℕ → Row → Bool
-higherThan id status r = ofId kindTradeHistory id r && ltb status (r .status)
-
--- a trade has the history of its status, and none of a higher one
-abbrev pub historyKept : List Row → ℕ → ℕ → Bool
-historyKept rs id status = there (aHistory id status) rs && eqb (count (higherThan id status) rs) 0
-
--- what is counted of a trade's histories
-histories : (id : ℕ) (p : Row → Bool) → ((r : Row) → p r ≡ true → ofId kindTradeHistory id r ≡ true)
-    → Counted (λ r. bit (p r)) 1 (historyGroup id)
-histories id p h =
-    only-grouped p (λ r. bit (p r)) 1 (historyGroup id)
-    (record {
-      all = λ r e.
-          let k = both-eq (r .kind) kindTradeHistory (r .id) id (h r e) in history-group id r (k .0) (k .1);
-    })
-    (λ r q. rw q)
-
-pub history-counted : (id status : ℕ) → Counted (λ r. bit (hasKey (aHistory id status) r)) 1 (historyGroup id)
-history-counted id status =
-    histories id (hasKey (aHistory id status))
-    (λ r e. and-left (ofId kindTradeHistory id r) (eqb (r .status) status) (sym (by-status id status r) ∙ e))
-
-pub higher-counted : (id status : ℕ) → Counted (λ r. bit (higherThan id status r)) 1 (historyGroup id)
-higher-counted id status =
-    histories id (higherThan id status) (λ r e. and-left (ofId kindTradeHistory id r) (ltb status (r .status)) e)
+-- the rows of the groups that are walked in turn
+abbrev pub member : Key → Row → Bool
+member k r = cond (eqb (k .kind) kindRequest) (requestOn (k .symbol) r) (lotOf (k .party) (k .symbol) r)
 
 -- every row of a book that keeps S1 fits
 pub fits-there : (b : List ℕ) (c : ℕ) {r : Row} → s1 (rows b) ≡ true → c < length b / 64 → r ≡ rowAt b c

@@ -1,32 +1,39 @@
-// The commission band of so many shares.
+// The commission band of so many shares, and its rate.
 ghost use mathlib.Core.Path.{_≡_};
 ghost use Rattle.laws.specs.Search.{place};
-ghost use Rattle.model.specs.Band.{bandFor};
+ghost use Rattle.record.specs.Signed.{up};
+ghost use Rattle.model.specs.Band.{bandFor, bandRate};
 ghost use Rattle.model.specs.Rows.{rows};
 ghost use Rattle.directory.specs.Listed.{Listed};
 use chains::chain::next;
 use chains::group;
+use kinds::rows::Band;
+use kinds::units::PerTenThousand;
+use kinds::units::Shares;
+use record::bytes::wide32;
 use record::codes::Kind;
 use record::row::Grid;
 use record::row::Row;
 use record::symbol::Symbol;
+use shelf::place::record_at;
 use shelf::place::row_at;
 
-fn holds(form: u8, tier: u8, exchange: u8, shares: u32, r: Row) -> bool
-    ensures { λ b. ⌜ b ≡ bandFor form tier exchange shares r ⌝ }
+fn holds(form: u8, tier: u8, exchange: u8, shares: Shares, r: Row) -> bool
+    ensures { λ b. ⌜ b ≡ bandFor form tier exchange (up (shares .0)) r ⌝ }
 {
+    let many = shares.plain();
     (r.kind == Kind::BAND)
         & (r.form == form)
         & (r.status == tier)
         & (r.flags == exchange)
-        & (r.n1 <= shares)
-        & (shares <= r.n2)
+        & (wide32(r.n1) <= many)
+        & (many <= wide32(r.n2))
 }
 
 // The place of the band that holds the shares, the number of places where there is none.
-pub fn band(book: &[u8], dir: &[u16], form: u8, tier: u8, exchange: u8, shares: u32) -> usize
+pub fn band(book: &[u8], dir: &[u16], form: u8, tier: u8, exchange: u8, shares: Shares) -> usize
     requires { ⌜ Listed (now book) (now dir) ⌝ }
-    ensures { λ r. ⌜ r ≡ place (bandFor form tier exchange shares) (rows (now (book .entry))) ⌝ }
+    ensures { λ r. ⌜ r ≡ place (bandFor form tier exchange (up (shares .0))) (rows (now (book .entry))) ⌝ }
 {
     let n = book.len() / Grid::SIZE;
     let bands = group::of_fields(Kind::BAND, form, tier, exchange, 0, 0, Symbol::NONE);
@@ -38,4 +45,20 @@ pub fn band(book: &[u8], dir: &[u16], form: u8, tier: u8, exchange: u8, shares: 
         c = next(dir, c);
     }
     c
+}
+
+// Its rate, 0 where there is none.
+pub fn rate(
+    book: &[u8],
+    dir: &[u16],
+    form: u8,
+    tier: u8,
+    exchange: u8,
+    shares: Shares,
+) -> PerTenThousand
+    requires { ⌜ Listed (now book) (now dir) ⌝ }
+    ensures { λ r. ⌜ r .0 ≡ bandRate (rows (now (book .entry))) form tier exchange (up (shares .0)) ⌝ }
+{
+    let bytes = record_at(book, band(book, dir, form, tier, exchange, shares));
+    Band::from_bytes(&bytes).rate
 }

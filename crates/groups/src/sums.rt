@@ -3,21 +3,20 @@ ghost use mathlib.Core.Path.{_≡_};
 ghost use mathlib.Core.Bool.{false, true};
 ghost use Prim.Native.Nat.{_≤_};
 ghost use Rattle.laws.specs.Search.{bit, count};
-ghost use Rattle.rules.specs.Ranges.{sharesMost};
+ghost use Rattle.rules.specs.Ranges.{sharesMost, taxPart};
 ghost use Rattle.rules.specs.Rules.{fits};
-ghost use Rattle.model.specs.Names.{aHistory};
-ghost use Rattle.model.specs.Rows.{hasKey, rows};
+ghost use Rattle.model.specs.Rows.{rows};
 ghost use Rattle.model.specs.Sound.{lotOf, overlaps, rateOf, ratesOf, s1};
 ghost use Rattle.directory.specs.Listed.{Listed};
-ghost use Rattle.groups.specs.Sums.{HoldsSide, higherThan, historyKept, sharesPart, side};
+ghost use Rattle.groups.specs.Sums.{HoldsSide, sharesPart, side};
 use crate::lots::held;
 use chains::chain::next;
 use chains::group;
 use directory::typed::tax_rate;
 use kinds::units::AccountNo;
 use kinds::units::CustomerNo;
+use kinds::units::PerHundredThousand;
 use kinds::units::RateNo;
-use kinds::units::TradeNo;
 use record::bytes::wide32;
 use record::codes::Kind;
 use record::row::Grid;
@@ -85,6 +84,15 @@ pub fn rates(book: &[u8], dir: &[u16], customer: CustomerNo) -> u64
         c = next(dir, c);
     }
     sum
+}
+
+// The same as a rate, where it is one: at most 100 percent, as in a sound book.
+pub fn tax_rates(book: &[u8], dir: &[u16], customer: CustomerNo) -> PerHundredThousand
+    requires { ⌜ Listed (now book) (now dir) ⌝ }
+    requires { ⌜ ratesOf (rows (now book)) (customer .0) ≤ taxPart .high ⌝ }
+    ensures { λ r. ⌜ r .0 ≡ ratesOf (rows (now (book .entry))) (customer .0) ⌝ }
+{
+    PerHundredThousand(rates(book, dir, customer) as u32)
 }
 
 // How far a signed number is from zero if it is below it, for what is owed, or above it, for what is not; else 0.
@@ -156,35 +164,4 @@ pub fn holding(book: &[u8], dir: &[u16], account: AccountNo, symbol: Symbol) -> 
         long,
         owed,
     }
-}
-
-fn of_status(id: u64, status: u8, row: Row) -> bool
-    ensures { λ r. ⌜ r ≡ hasKey (aHistory id status) row ⌝ }
-{
-    (row.kind == Kind::TRADE_HISTORY) & (row.id == id) & (row.status == status)
-}
-
-fn higher(id: u64, status: u8, row: Row) -> bool
-    ensures { λ r. ⌜ r ≡ higherThan id status row ⌝ }
-{
-    (row.kind == Kind::TRADE_HISTORY) & (row.id == id) & (status < row.status)
-}
-
-// A trade has the history of its status, and none of a higher one.
-pub fn historied(book: &[u8], dir: &[u16], trade: TradeNo, status: u8) -> bool
-    requires { ⌜ Listed (now book) (now dir) ⌝ }
-    ensures { λ r. ⌜ r ≡ historyKept (rows (now (book .entry))) (trade .0) status ⌝ }
-{
-    let n = book.len() / Grid::SIZE;
-    let mut present = 0;
-    let mut above = 0;
-    let histories = group::of_fields(Kind::TRADE_HISTORY, 0, 0, 0, 0, trade.0, Symbol::NONE);
-    let mut c = group::first(dir, histories);
-    while c < n {
-        let row = row_at(book, c);
-        present += bit(of_status(trade.0, status, row));
-        above += bit(higher(trade.0, status, row));
-        c = next(dir, c);
-    }
-    (1 <= present) & (above == 0)
 }

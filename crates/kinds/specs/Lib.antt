@@ -2,5 +2,5 @@ pub mod Units
 pub mod Kinds
 pub mod Inputs
 pub mod Written
-pub mod Sums
+pub mod Sizes
 pub mod Typed

@@ -15,3 +15,7 @@ shares z = record { 0 = z }
 -- the lower 32 bits of a signed number
 abbrev pub low : ℤ → ℕ
 low z = ofZ w64 z % 4294967296
+
+-- the most that a signed number of 64 bits holds
+abbrev pub signedMost : ℕ
+signedMost = 9_223_372_036_854_775_807

@@ -1,22 +1,67 @@
 // The meta-types of clause 2.2.2, kept apart: a count of shares is never handed over as a count of cents, nor a trade
 // number as an account.
 ghost use mathlib.Core.Path.{_≡_};
-ghost use Prim.Native.Nat.{_+_, _%_, _≤_, _<_};
+ghost use Prim.Native.Nat.{_+_, _%_, _≤_};
 ghost use lib.ListN.{length};
-ghost use lib.IntN.{pos, natAbs, _+ℤ_};
+ghost use lib.IntN.{_+ℤ_, _-ℤ_, natAbs, negℤ, pos};
 ghost use mir.Syntax.{w32, w64};
 ghost use mir.Val.{ofZ, toZ};
 ghost use Rattle.record.specs.Bytes.{le};
-ghost use Rattle.kinds.specs.Units.{cents, low, shares};
+ghost use Rattle.record.specs.Signed.{up};
+ghost use Rattle.kinds.specs.Units.{cents, low, shares, signedMost};
 use record::bytes;
 
 // A count of shares, below zero for what is owed.
 pub struct Shares(pub i64);
 
-// Money.
-pub struct Cents(pub i64);
-
 impl Shares {
+    pub fn of(x: u64) -> Shares
+        requires { ⌜ x ≤ signedMost ⌝ }
+        ensures { λ r. ⌜ r ≡ shares (pos x) ⌝ }
+        ensures { λ r. ⌜ (up (r .0) ≡ x) × (natAbs (r .0) ≡ x) ⌝ }
+    {
+        Shares(signed(x))
+    }
+
+    // The count as a plain number; what is below zero counts as 0.
+    pub fn plain(self) -> u64
+        ensures { λ r. ⌜ r ≡ up (self .0) ⌝ }
+        ensures { λ r. ⌜ r ≤ signedMost ⌝ }
+    {
+        above(self.0)
+    }
+
+    // How many there are, held or owed.
+    pub fn size(self) -> u64
+        ensures { λ r. ⌜ r ≡ natAbs (self .0) ⌝ }
+    {
+        distance(self.0)
+    }
+
+    pub fn plus(self, other: Shares) -> Shares
+        requires { ⌜ natAbs (self .0) + natAbs (other .0) ≤ signedMost ⌝ }
+        ensures { λ r. ⌜ r ≡ shares (self .0 +ℤ other .0) ⌝ }
+        ensures { λ r. ⌜ natAbs (r .0) ≤ natAbs (self .0) + natAbs (other .0) ⌝ }
+    {
+        Shares(sum(self.0, other.0))
+    }
+
+    pub fn negated(self) -> Shares
+        requires { ⌜ natAbs (self .0) ≤ signedMost ⌝ }
+        ensures { λ r. ⌜ r ≡ shares (negℤ (self .0)) ⌝ }
+        ensures { λ r. ⌜ natAbs (r .0) ≡ natAbs (self .0) ⌝ }
+    {
+        Shares(negative(self.0))
+    }
+
+    pub fn less(self, other: Shares) -> Shares
+        requires { ⌜ natAbs (self .0) + natAbs (other .0) ≤ signedMost ⌝ }
+        ensures { λ r. ⌜ r ≡ shares (self .0 -ℤ other .0) ⌝ }
+        ensures { λ r. ⌜ natAbs (r .0) ≤ natAbs (self .0) + natAbs (other .0) ⌝ }
+    {
+        self.plus(other.negated())
+    }
+
     // The 64 bits of a signed count.
     pub fn bits(self) -> u64
         ensures { λ r. ⌜ r ≡ ofZ w64 (self .0) ⌝ }
@@ -30,16 +75,52 @@ impl Shares {
     {
         lower(self.bits())
     }
-
-    pub fn plus(self, other: Shares) -> Shares
-        requires { ⌜ natAbs (self .0) + natAbs (other .0) < 9223372036854775808 ⌝ }
-        ensures { λ r. ⌜ (r .0 ≡ self .0 +ℤ other .0) × (natAbs (r .0) ≤ natAbs (self .0) + natAbs (other .0)) ⌝ }
-    {
-        Shares(self.0 + other.0)
-    }
 }
 
+// Money.
+pub struct Cents(pub i64);
+
 impl Cents {
+    pub fn of(x: u64) -> Cents
+        requires { ⌜ x ≤ signedMost ⌝ }
+        ensures { λ r. ⌜ r ≡ cents (pos x) ⌝ }
+        ensures { λ r. ⌜ (up (r .0) ≡ x) × (natAbs (r .0) ≡ x) ⌝ }
+    {
+        Cents(signed(x))
+    }
+
+    // The amount as a plain number; what is below zero counts as 0.
+    pub fn plain(self) -> u64
+        ensures { λ r. ⌜ r ≡ up (self .0) ⌝ }
+        ensures { λ r. ⌜ r ≤ signedMost ⌝ }
+    {
+        above(self.0)
+    }
+
+    pub fn plus(self, other: Cents) -> Cents
+        requires { ⌜ natAbs (self .0) + natAbs (other .0) ≤ signedMost ⌝ }
+        ensures { λ r. ⌜ r ≡ cents (self .0 +ℤ other .0) ⌝ }
+        ensures { λ r. ⌜ natAbs (r .0) ≤ natAbs (self .0) + natAbs (other .0) ⌝ }
+    {
+        Cents(sum(self.0, other.0))
+    }
+
+    pub fn negated(self) -> Cents
+        requires { ⌜ natAbs (self .0) ≤ signedMost ⌝ }
+        ensures { λ r. ⌜ r ≡ cents (negℤ (self .0)) ⌝ }
+        ensures { λ r. ⌜ natAbs (r .0) ≡ natAbs (self .0) ⌝ }
+    {
+        Cents(negative(self.0))
+    }
+
+    pub fn less(self, other: Cents) -> Cents
+        requires { ⌜ natAbs (self .0) + natAbs (other .0) ≤ signedMost ⌝ }
+        ensures { λ r. ⌜ r ≡ cents (self .0 -ℤ other .0) ⌝ }
+        ensures { λ r. ⌜ natAbs (r .0) ≤ natAbs (self .0) + natAbs (other .0) ⌝ }
+    {
+        self.plus(other.negated())
+    }
+
     pub fn bits(self) -> u64
         ensures { λ r. ⌜ r ≡ ofZ w64 (self .0) ⌝ }
     {
@@ -51,13 +132,44 @@ impl Cents {
     {
         lower(self.bits())
     }
+}
 
-    pub fn plus(self, other: Cents) -> Cents
-        requires { ⌜ natAbs (self .0) + natAbs (other .0) < 9223372036854775808 ⌝ }
-        ensures { λ r. ⌜ (r .0 ≡ self .0 +ℤ other .0) × (natAbs (r .0) ≤ natAbs (self .0) + natAbs (other .0)) ⌝ }
-    {
-        Cents(self.0 + other.0)
+fn sum(a: i64, b: i64) -> i64
+    requires { ⌜ natAbs a + natAbs b ≤ signedMost ⌝ }
+    ensures { λ r. ⌜ (r ≡ a +ℤ b) × (natAbs r ≤ natAbs a + natAbs b) ⌝ }
+{
+    a + b
+}
+
+fn negative(x: i64) -> i64
+    requires { ⌜ natAbs x ≤ signedMost ⌝ }
+    ensures { λ r. ⌜ (r ≡ negℤ x) × (natAbs r ≡ natAbs x) ⌝ }
+{
+    0 - x
+}
+
+fn signed(x: u64) -> i64
+    requires { ⌜ x ≤ signedMost ⌝ }
+    ensures { λ r. ⌜ r ≡ pos x ⌝ }
+{
+    x as i64
+}
+
+// What is below zero counts as 0.
+fn above(x: i64) -> u64
+    ensures { λ r. ⌜ r ≡ up x ⌝ }
+{
+    if x < 0 { 0 } else { x as u64 }
+}
+
+// How far a number is from zero.
+fn distance(x: i64) -> u64
+    ensures { λ r. ⌜ r ≡ natAbs x ⌝ }
+{
+    if x < 0 {
+        return (-1 - x) as u64 + 1;
     }
+    x as u64
 }
 
 fn lower(x: u64) -> u32

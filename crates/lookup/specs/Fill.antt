@@ -12,11 +12,12 @@ use Rattle.laws.specs.Search.{every, run}
 use Rattle.laws.specs.Tests.{and-both, and-left, and-right}
 use Rattle.laws.specs.Walk.{left-next, left-none}
 use Rattle.record.specs.declared.row.Row.{Row}
+use Rattle.kinds.specs.declared.units.TradeNo.{TradeNo}
 use Rattle.record.specs.Bytes.{Bytes}
 use Rattle.model.specs.Call.{mostInputs}
 use Rattle.model.specs.Lookup.{checks, looked, lookup}
 use Rattle.model.specs.Names.{aSettlement, aTrade}
-use Rattle.model.specs.Rows.{bytes, found, nothing, rows, there, wholeRecords}
+use Rattle.model.specs.Rows.{bytes, found, nothing, places, rows, there, wholeRecords}
 use Rattle.model.specs.RowsLaws.{bytes-rows}
 use Rattle.model.specs.declared.Status.the-variants.{Done, LookupNoTrade}
 use Rattle.model.specs.Plan.{accepted, also, verdict}
@@ -32,18 +33,21 @@ use Rattle.reply.specs.Left.{answerLeft}
 abbrev pub allKnown : List Row → List Row → Bool
 allKnown rs inputs = every (λ (i : Row). there (aTrade (i .id)) rs) inputs
 
--- the rows of an area with the two rows of record i in their places
-abbrev pub answered : List Row → Row → ℕ → List Row → List Row
-answered rs asked i area =
-    set (set area (i * 2) (found (aTrade (asked .id)) rs)) (i * 2 + 1) (found (aSettlement (asked .id)) rs)
+-- the number that a record asks for
+abbrev pub asked : Row → TradeNo
+asked r = record { 0 = r .id }
+
+-- the rows of an area with the two rows of a number, that of record i, in their places
+abbrev pub answered : List Row → ℕ → ℕ → List Row → List Row
+answered rs t i area = set (set area (i * 2) (found (aTrade t) rs)) (i * 2 + 1) (found (aSettlement t) rs)
 
 -- an area that had these rows has the two in their places
-abbrev pub Answers : List ℕ → Row → ℕ → List ℕ → List ℕ → Type 0
-Answers b asked i area next = rows next ≡ answered (rows b) asked i (rows area)
+abbrev pub Answers : List ℕ → ℕ → ℕ → List ℕ → List ℕ → Type 0
+Answers b t i area next = rows next ≡ answered (rows b) t i (rows area)
 
 -- what is left of the input, answered into the area as it is, leads to w
 pub record Filled (rs : List Row) (input : List ℕ) (w : List Row) (area : List ℕ) (i : ℕ) : Type 0 where
-  pub within : i ≤ length input / 64
+  pub within : i ≤ places input
   pub same : sets (rows area) (i * 2) (looked rs (drop i (rows input))) ≡ w
 
 pub fill-start : (rs : List Row) (input area : List ℕ)
@@ -51,19 +55,19 @@ pub fill-start : (rs : List Row) (input area : List ℕ)
 fill-start rs input area = record { within = omega arith; same = refl }
 
 module _ {rs : List Row} {input area : List ℕ} {w : List Row} {i : ℕ} (s : Filled rs input w area i) where
-  pub fill-more : (next : List ℕ) {r : Row} → i < length input / 64 → r ≡ rowAt input i
-      → rows next ≡ answered rs r i (rows area) → Filled rs input w next (i + 1)
+  pub fill-more : (next : List ℕ) {t : TradeNo} → i < places input → t ≡ asked (rowAt input i)
+      → rows next ≡ answered rs (t .0) i (rows area) → Filled rs input w next (i + 1)
   unfolding looked
-  fill-more next {r} h a p =
+  fill-more next {t} h a p =
       let l : looked rs (drop i (rows input))
-      ≡ found (aTrade (r .id)) rs ∷ found (aSettlement (r .id)) rs ∷ looked rs (drop (i + 1) (rows input)) =
+      ≡ found (aTrade (t .0)) rs ∷ found (aSettlement (t .0)) rs ∷ looked rs (drop (i + 1) (rows input)) =
       rw (left-next (rows input) i nothing (rw length-rows h), a)
       in
       let n : (i + 1) * 2 ≡ suc (suc (i * 2)) = omega arith in
       let k : i * 2 + 1 ≡ suc (i * 2) = omega arith in
       record { within = omega arith; same = rw (p, n, k) (rw l at (s .same)) }
 
-  pub fill-all : length input / 64 ≤ i → rows area ≡ w
+  pub fill-all : places input ≤ i → rows area ≡ w
   unfolding looked
   fill-all h =
       let l : sets (rows area) (i * 2) (looked rs (drop i (rows input))) ≡ rows area =
@@ -77,7 +81,7 @@ length-looked rs [] = refl
 length-looked rs (x ∷ l) = let e = length-looked rs l in omega arith
 
 -- an area twice as long is answered whole
-pub whole : (rs : List Row) (input area : List ℕ) → length area / 64 ≡ length input / 64 * 2
+pub whole : (rs : List Row) (input area : List ℕ) → places area ≡ places input * 2
     → sets (rows area) 0 (looked rs (rows input)) ≡ looked rs (rows input)
 whole rs input area e =
     let vs = looked rs (rows input) in

@@ -1,107 +1,77 @@
--- What an order reads and what it works out, as the code has them: the view of the rules and its values. Assumes
--- nothing.
+-- What an order works out from what it read, as the code has it. Assumes nothing.
 use mathlib.Core.Path.{_≡_}
 use mathlib.Core.Bool.{Bool, true, false, cond}
 use mathlib.Core.List.{List}
-use Prim.Native.Nat.{ℕ, _≤_, _<_}
+use Prim.Native.Nat.{_≤_, _<_}
+use lib.Dec.{leb}
 use lib.IntN.{pos}
+use lib.ListN.{length}
 use borrow.Author.Tests.{le-leb, lt-leb}
 use Rattle.record.specs.Codes.{tms}
 use Rattle.record.specs.Signed.{up}
 use Rattle.record.specs.declared.row.Row.{Row}
-use Rattle.kinds.specs.Units.{cents, shares}
+use Rattle.kinds.specs.Units.{cents}
+use Rattle.kinds.specs.declared.inputs.OrderInput.{OrderInput}
+use Rattle.kinds.specs.declared.rows.Security.{Security}
 use Rattle.kinds.specs.declared.units.Cents.{Cents}
 use Rattle.kinds.specs.declared.units.Price.{Price}
-use Rattle.kinds.specs.declared.units.Shares.{Shares}
-use Rattle.kinds.specs.declared.units.TradeNo.{TradeNo}
-use Rattle.rules.specs.Meaning.{means-order-input}
-use Rattle.rules.specs.Ranges.{commissionPart, priceMost, sharesMost, taxPart}
-use Rattle.rules.specs.Rules.{orderInput}
-use Rattle.model.specs.Lots.{walk}
-use Rattle.model.specs.Money.{commissionOf, taxOf, untaxed}
-use Rattle.model.specs.Names.{aCustomer, aSecurity, anAccount}
-use Rattle.model.specs.Order.{View, atMarket, priceUsed, taxed, view, walked}
-use Rattle.model.specs.Rows.{found}
-use Rattle.model.specs.Sound.{sound}
-use Rattle.facts.specs.Found.{sound-s1}
-use Rattle.facts.specs.Most.{rate-most, rates-most, price-most}
-use Rattle.lots.specs.Lots.{lotsOf}
-use Rattle.lots.specs.Terms.{perTenThousand, priceOf}
-use Rattle.lots.specs.Walk.{made}
-use Rattle.lots.specs.declared.walk.Walk.{Walk}
+use Rattle.rules.specs.Ranges.{priceMost}
+use Rattle.model.specs.Lots.{closings, lotsFor}
+use Rattle.model.specs.Lots
+use Rattle.model.specs.Money.{buys, commissionOf, taxOf, untaxed}
+use Rattle.walk.specs.Walk.{made}
+use Rattle.walk.specs.declared.Walk.{Walk}
 use Rattle.order.specs.declared.estimate.Estimate.{Estimate}
-use Rattle.order.specs.declared.estimate.Terms.{Terms}
+use Rattle.order.specs.declared.terms.Terms.{Terms}
+use Rattle.order.specs.Terms.{Fits, Ranged}
 
-abbrev pub tradeNo : ℕ → TradeNo
-tradeNo x = record { 0 = x }
+abbrev pub usedPrice : OrderInput → Security → Price
+usedPrice i s = record { 0 = cond (leb (i .«trade_type») tms) (s .«last_price» .0) (i .bid .0) }
 
--- of the view
-abbrev termsSeen : View → Terms
-termsSeen v = record {
-  account = v .account;
-  security = v .security;
-  charge = v .charge;
-  rates = v .rates;
-  rate = perTenThousand (v .rate);
-  number = tradeNo (v .number);
-}
+abbrev lots : List Row → OrderInput → List Row
+lots rs i = lotsFor rs (i .«trade_type») (i .flags) (i .account .0) (i .symbol)
 
-abbrev estimateSeen : Row → View → Estimate
-estimateSeen input v = record {
-  price = priceOf (priceUsed input v);
-  walk = made (walked input v);
-  tax = cents (pos (taxed input v));
-  untaxed = untaxed (v .account .form) (v .rates) (walked input v .bought) (walked input v .sold);
-  commission = cents (pos (commissionOf (v .rate) (input .n1) (priceUsed input v)));
-}
+-- the walk of the rules, and the lots that they close counted
+unfoldable pub walkOf : List Row → OrderInput → Price → Walk
+walkOf rs i price =
+    made (buys (i .«trade_type»)) price (Lots.walk (i .«trade_type») (price .0) (up (i .shares .0)) (lots rs i))
+    (length (closings (up (i .shares .0)) (lots rs i)))
 
--- and of the book
-unfoldable pub termsOf : List Row → Row → Terms
-termsOf rs input = termsSeen (view rs input)
-
-unfoldable pub estimated : List Row → Row → Estimate
-estimated rs input = estimateSeen input (view rs input)
+unfoldable pub estimateOf : List Row → OrderInput → Terms → Estimate
+estimateOf rs i t =
+    let price = usedPrice i (t .paper .row) in
+    let w = walkOf rs i price in
+    let status = t .holder .row .«tax_status» in
+    record {
+      price = price;
+      walk = w;
+      tax = cents (pos (taxOf status (t .rates .0) (up (w .bought .0)) (up (w .sold .0))));
+      untaxed = untaxed status (t .rates .0) (up (w .bought .0)) (up (w .sold .0));
+      commission = cents (pos (commissionOf (t .rate .0) (up (i .shares .0)) (price .0)));
+    }
 
 -- ---- the price used
-pub price-last : (input s : Row) → input .form ≤ tms
-    → priceOf (s .n1) ≡ priceOf (cond (atMarket input) (s .n1) (input .n2))
-price-last input s h = rw (le-leb (input .form) tms h)
+pub price-last : (i : OrderInput) (s : Security) → i .«trade_type» ≤ tms → s .«last_price» ≡ usedPrice i s
+price-last i s h = rw (le-leb (i .«trade_type») tms h)
 
-pub price-bid : (input s : Row) → tms < input .form
-    → priceOf (input .n2) ≡ priceOf (cond (atMarket input) (s .n1) (input .n2))
-price-bid input s h = rw (lt-leb (input .form) tms h)
+pub price-bid : (i : OrderInput) (s : Security) → tms < i .«trade_type» → i .bid ≡ usedPrice i s
+price-bid i s h = rw (lt-leb (i .«trade_type») tms h)
 
--- ---- all is in its range, and the values are those of the rules
-pub shares-fit : (input : Row) → orderInput input ≡ true → input .n1 ≤ sharesMost
-shares-fit input right = means-order-input input .shows right .0 .0 .2 .2 .2 .2 .2 .2 .2 .1
+pub price-fits : (i : OrderInput) (t : Terms) {p : Price} → Fits i → Ranged t → p ≡ usedPrice i (t .paper .row)
+    → p .0 ≤ priceMost
+price-fits i t f r e = rw e (go (leb (i .«trade_type») tms))
+  where
+    go : (m : Bool) → cond m (t .paper .row .«last_price» .0) (i .bid .0) ≤ priceMost
+    go true = r .price
+    go false = f .bid
 
-module _ (rs : List Row) (input : Row) {t : Terms} (good : sound rs ≡ true) (right : orderInput input ≡ true)
-    (h : t ≡ termsOf rs input) where
-  pub price-fits : {p : Price} → p ≡ priceOf (cond (atMarket input) (t .security .n1) (input .n2)) → p .0 ≤ priceMost
-  unfolding termsOf view
-  price-fits e = rw (e, h) (go (atMarket input))
-    where
-      go : (m : Bool) → cond m (found (aSecurity (input .symbol)) rs .n1) (input .n2) ≤ priceMost
-      go true = price-most rs (input .symbol) (sound-s1 rs good)
-      go false = means-order-input input .shows right .0 .0 .2 .2 .2 .2 .2 .2 .2 .2 .1
-
-  pub rates-fit : t .rates ≤ taxPart .high
-  unfolding termsOf view
-  rates-fit = rw h (rates-most rs (found (anAccount (input .party)) rs .n2) good)
-
-  pub rate-fits : t .rate .0 ≤ commissionPart .high
-  unfolding termsOf view
-  rate-fits =
-      let a = found (anAccount (input .party)) rs in
-      let tier = found (aCustomer (a .n2)) rs .form in
-      rw h (rate-most rs (input .form) tier (found (aSecurity (input .symbol)) rs .form) (input .n1) (sound-s1 rs good))
-
-  pub estimate-is : {p : Price} {w : Walk} {x k : Cents} {u : Bool} {s : Shares}
-      → p ≡ priceOf (cond (atMarket input) (t .security .n1) (input .n2))
-      → w ≡ made (walk (input .form) (p .0) (input .n1) (lotsOf rs input))
-      → x ≡ cents (pos (taxOf (t .account .form) (t .rates) (up (w .bought .0)) (up (w .sold .0))))
-      → u ≡ untaxed (t .account .form) (t .rates) (up (w .bought .0)) (up (w .sold .0))
-      → s ≡ shares (pos (input .n1)) → k ≡ cents (pos (commissionOf (t .rate .0) (up (s .0)) (p .0)))
-      → _≡_ {A = Estimate} (record { price = p; walk = w; tax = x; untaxed = u; commission = k }) (estimated rs input)
-  unfolding termsOf estimated view
-  estimate-is e g i j f l = rw (l, f, j, i, g, e, h)
+-- ---- each value as it is worked out
+pub estimate-is : (rs : List Row) (i : OrderInput) (t : Terms) {p : Price} {w : Walk} {x k : Cents} {u : Bool}
+    → p ≡ usedPrice i (t .paper .row)
+    → w ≡ walkOf rs i p
+    → x ≡ cents (pos (taxOf (t .holder .row .«tax_status») (t .rates .0) (up (w .bought .0)) (up (w .sold .0))))
+    → u ≡ untaxed (t .holder .row .«tax_status») (t .rates .0) (up (w .bought .0)) (up (w .sold .0))
+    → k ≡ cents (pos (commissionOf (t .rate .0) (up (i .shares .0)) (p .0)))
+    → _≡_ {A = Estimate} (record { price = p; walk = w; tax = x; untaxed = u; commission = k }) (estimateOf rs i t)
+unfolding estimateOf
+estimate-is rs i t e g x u k = rw (k, u, x, g, e)

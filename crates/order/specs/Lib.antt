@@ -1,3 +1,4 @@
+pub mod Terms
 pub mod Estimate
 pub mod Judge
 pub mod Post

@@ -1,81 +1,147 @@
 -- The rows that an order adds and the one that it answers, of what it read and worked out. Assumes nothing.
-use mathlib.Core.Path.{_≡_, refl, sym, subst, _∙_}
+use mathlib.Core.Path.{_≡_, refl, sym, ap, _∙_}
 use mathlib.Core.Bool.{Bool, true, false, cond}
 use mathlib.Core.List.{List, [], _∷_}
-use Prim.Native.Nat.{ℕ, _≤_, _<_}
+use Prim.Native.Nat.{ℕ, suc, _%_, _≤_, _<_}
+use native.Mathlib.Omega.{arith}
 use lib.Dec.{leb}
-use lib.ListN.{set}
+use lib.IntN.{pos}
+use lib.ListN.{length}
+use mir.Syntax.{w64}
+use mir.Val.{ofZ}
 use borrow.Author.Tests.{le-leb, lt-leb}
 use Rattle.laws.specs.Change.{fill}
-use Rattle.record.specs.Codes.{tms}
-use Rattle.record.specs.Signed.{up}
+use Rattle.record.specs.Codes.{kindFree, pending, submitted, tms}
 use Rattle.record.specs.declared.row.Row.{Row}
+use Rattle.kinds.specs.Units.{cents, low}
+use Rattle.kinds.specs.Written.{requestRow, tradeHistoryRow, tradeRow}
+use Rattle.kinds.specs.declared.inputs.OrderInput.{OrderInput}
 use Rattle.model.specs.Flags.{rollBack}
-use Rattle.model.specs.Order.{addedRows, answerRow, requestRow, tradeRow}
-use Rattle.model.specs.Rows.{nothing, rows, sameRow}
-use Rattle.model.specs.History.{historyRow}
-use Rattle.shelf.specs.Put.{Adding, Free, add-done, add-next, add-start}
-use Rattle.shelf.specs.Rows.{after, freeFrom}
+use Rattle.model.specs.Order.{answerRow}
+use Rattle.model.specs.Rows.{is, nothing, rows, sameRow}
+use Rattle.directory.specs.Added.{Added, Room, room-first, room-next}
+use Rattle.directory.specs.Directory.{Directory}
+use Rattle.directory.specs.declared.totals.Totals.{Totals}
 use Rattle.order.specs.declared.estimate.Estimate.{Estimate}
-use Rattle.order.specs.declared.estimate.Terms.{Terms}
+use Rattle.order.specs.declared.terms.Terms.{Terms}
+use Rattle.order.specs.Judge.{rowsAdded}
 
--- ---- of the terms and the estimate
-abbrev pub tradeOf : Row → Terms → Estimate → Row
-tradeOf input t e = tradeRow input (t .number .0) (e .price .0) (t .charge) (up (e .commission .0))
+-- ---- the rows, typed
+abbrev pub statusOf : OrderInput → ℕ
+statusOf i = cond (leb (i .«trade_type») tms) submitted pending
 
-abbrev pub requestOf : Row → Terms → Estimate → Row
-requestOf input t e = requestRow input (t .account .n1) (t .number .0) (e .price .0)
+unfoldable pub tradeOf : OrderInput → Terms → Estimate → Row
+tradeOf i t e = tradeRow (record {
+  no = t .number;
+  «trade_type» = i .«trade_type»;
+  status = statusOf i;
+  flags = i .flags % 4;
+  account = i .account;
+  symbol = i .symbol;
+  shares = i .shares;
+  bid = e .price;
+  price = record { 0 = 0 };
+  charge = t .charge;
+  commission = e .commission;
+  tax = cents (pos 0);
+  time = i .time;
+})
 
-abbrev addedOf : Row → Terms → Estimate → List Row
-addedOf input t e =
-    addedRows input (t .account .n1) (t .number .0) (e .price .0) (t .charge) (up (e .commission .0))
+unfoldable pub historyOf : OrderInput → Terms → Row
+historyOf i t = tradeHistoryRow (record { no = t .number; status = statusOf i; time = i .time })
+
+unfoldable pub requestOf : OrderInput → Terms → Estimate → Row
+requestOf i t e = requestRow (record {
+  no = t .number;
+  «trade_type» = i .«trade_type»;
+  broker = t .holder .row .broker;
+  symbol = i .symbol;
+  shares = i .shares;
+  bid = e .price;
+})
+
+abbrev pub waiting : OrderInput → Terms → Estimate → List Row
+waiting i t e = cond (leb (i .«trade_type») tms) [] (requestOf i t e ∷ [])
+
+abbrev pub addedOf : OrderInput → Terms → Estimate → List Row
+addedOf i t e = tradeOf i t e ∷ historyOf i t ∷ waiting i t e
 
 -- the rows of an order that is done
-unfoldable pub rowsAfter : List Row → Row → Terms → Estimate → List Row
-rowsAfter rs input t e = cond (rollBack (input .flags)) rs (fill sameRow nothing (addedOf input t e) rs)
+unfoldable pub rowsAfter : List Row → OrderInput → Terms → Estimate → List Row
+rowsAfter rs i t e = cond (rollBack (i .flags)) rs (fill sameRow nothing (addedOf i t e) rs)
 
 unfoldable pub answerOf : Terms → Estimate → Row
 answerOf t e =
-    answerRow (t .number .0) (up (e .tax .0)) (t .charge) (t .rate .0) (e .price .0) (up (e .walk .bought .0))
-    (up (e .walk .sold .0))
+    answerRow (t .number .0) (ofZ w64 (e .tax .0)) (low (t .charge .0)) (t .rate .0) (e .price .0)
+    (ofZ w64 (e .walk .bought .0)) (ofZ w64 (e .walk .sold .0))
 
--- ---- with roll back the rows are as they were
-module _ (input : Row) (t : Terms) (e : Estimate) (b : List ℕ) {x : Bool} (r : x ≡ rollBack (input .flags)) where
-  pub rolled-back : x ≡ true → rows b ≡ rowsAfter (rows b) input t e
+-- none of them is free
+pub live-trade : (i : OrderInput) (t : Terms) (e : Estimate) → is kindFree (tradeOf i t e) ≡ false
+unfolding tradeOf tradeRow
+live-trade i t e = refl
+
+pub live-history : (i : OrderInput) (t : Terms) → is kindFree (historyOf i t) ≡ false
+unfolding historyOf tradeHistoryRow
+live-history i t = refl
+
+pub live-request : (i : OrderInput) (t : Terms) (e : Estimate) → is kindFree (requestOf i t e) ≡ false
+unfolding requestOf requestRow
+live-request i t e = refl
+
+-- ---- rows are added one after the other: what is left to add leads to w
+pub record Left (w hs : List Row) (b d : List ℕ) (n : Totals) : Type 0 where
+  pub room : Room hs b d n
+  pub leads : fill sameRow nothing hs (rows b) ≡ w
+
+pub left-start : {hs : List Row} {b d : List ℕ} {n : Totals} → Room hs b d n
+    → Left (fill sameRow nothing hs (rows b)) hs b d n
+left-start s = record { room = s; leads = refl }
+
+module _ {w ks : List Row} {x r : Row} {b d : List ℕ} {n : Totals} (s : Left w (x ∷ ks) b d n)
+    (live : is kindFree x ≡ false) (e : r ≡ x) where
+  pub may-add : Directory b d n × ((1 ≤ n .free) × (is kindFree r ≡ false))
+  may-add =
+      let all = s .room .room in
+      (s .room .directory, (omega arith, rw e live))
+
+module _ {w ks : List Row} {x : Row} {b d : List ℕ} {n : Totals} (s : Left w (x ∷ ks) b d n) where
+  pub left-one : Room (x ∷ []) b d n
+  left-one = room-first (x ∷ []) ks (s .room)
+
+  pub left-next : {b′ d′ : List ℕ} {n′ : Totals} → Added (x ∷ []) b n b′ d′ n′ → Left w ks b′ d′ n′
+  unfolding fill
+  left-next a = record {
+    room = room-next (x ∷ []) ks (s .room) a;
+    leads = ap (fill sameRow nothing ks) (a .filled) ∙ s .leads;
+  }
+
+pub left-done : {w hs : List Row} {b d : List ℕ} {n : Totals} → Left w hs b d n → hs ≡ [] → rows b ≡ w
+unfolding fill
+left-done s e = rw e at (s .leads)
+
+-- ---- with roll back the rows are as they were, and else all are added
+module _ (i : OrderInput) (t : Terms) (e : Estimate) {x : Bool} (r : x ≡ rollBack (i .flags)) where
+  pub rolled-back : x ≡ true → (rs : List Row) → rs ≡ rowsAfter rs i t e
   unfolding rowsAfter
-  rolled-back y = rw (sym r ∙ y)
+  rolled-back y rs = rw (sym r ∙ y)
 
-  -- ---- else a trade and its history, and the request of one that waits
-  module _ (n : x ≡ false) (b₁ b₂ : List ℕ) {trade past : Row} {next last : ℕ}
-      (f : Free b 0)
-      (t-is : trade ≡ tradeOf input t e)
-      (t-next : next ≡ after (rows b) (freeFrom (rows b) 0))
-      (t-put : rows b₁ ≡ set (rows b) (freeFrom (rows b) 0) trade)
-      (h-is : past ≡ historyRow (trade .status) (trade .id) (trade .time))
-      (h-next : last ≡ after (rows b₁) (freeFrom (rows b₁) next))
-      (h-put : rows b₂ ≡ set (rows b₁) (freeFrom (rows b₁) next) past) where
-    abbrev all : List Row
-    all = fill sameRow nothing (addedOf input t e) (rows b)
+  pub all-added : x ≡ false → (rs : List Row) → fill sameRow nothing (addedOf i t e) rs ≡ rowsAfter rs i t e
+  unfolding rowsAfter
+  all-added y rs = rw (sym r ∙ y)
 
-    all-rows : all ≡ rowsAfter (rows b) input t e
-    unfolding rowsAfter
-    all-rows = rw (sym r ∙ n)
+-- an order at the market's price has no request, any other has one
+module _ (i : OrderInput) (t : Terms) (e : Estimate) where
+  pub submitted-now : i .«trade_type» ≤ tms → waiting i t e ≡ []
+  submitted-now h = rw (le-leb (i .«trade_type») tms h)
 
-    abbrev waiting : List Row
-    waiting = cond (leb (input .form) tms) [] (requestOf input t e ∷ [])
+  pub waits : {w : List Row} {b d : List ℕ} {n : Totals} → tms < i .«trade_type» → Left w (waiting i t e) b d n
+      → Left w (requestOf i t e ∷ []) b d n
+  waits h s = rw (lt-leb (i .«trade_type») tms h) at s
 
-    two-added : Adding all waiting b₂ last
-    two-added =
-        let s = add-next (add-start (addedOf input t e) b f) refl t-is t-next t-put in
-        add-next s refl (h-is ∙ rw t-is) h-next h-put
-
-    pub submitted-now : input .form ≤ tms → rows b₂ ≡ rowsAfter (rows b) input t e
-    submitted-now m = add-done two-added (rw (le-leb (input .form) tms m)) ∙ all-rows
-
-    pub waits : (b₃ : List ℕ) {q : Row} {end : ℕ} → tms < input .form → q ≡ requestOf input t e
-        → end ≡ after (rows b₂) (freeFrom (rows b₂) last) → rows b₃ ≡ set (rows b₂) (freeFrom (rows b₂) last) q
-        → rows b₃ ≡ rowsAfter (rows b) input t e
-    waits b₃ m q-is q-next q-put =
-        let w : waiting ≡ requestOf input t e ∷ [] = rw (lt-leb (input .form) tms m) in
-        let s = subst (λ (l : List Row). Adding all l b₂ last) w two-added in
-        add-done (add-next s refl q-is q-next q-put) refl ∙ all-rows
+  -- three rows at most
+  pub added-length : length (addedOf i t e) ≡ rowsAdded i
+  added-length = go (leb (i .«trade_type») tms)
+    where
+      go : (m : Bool) → suc (suc (length (cond m [] (requestOf i t e ∷ [])))) ≡ cond m 2 3
+      go true = refl
+      go false = refl

@@ -1,54 +1,58 @@
-// Trade-Order, on a book that is known to be sound: it is judged on the book as it is, and then posted.
+// Trade-Order, on a book that is known to be sound and its directory: judged on the book as it is, and then posted.
 ghost use mathlib.Core.Path.{_≡_};
 ghost use mathlib.Core.Bool.{true};
 ghost use lib.ListN.{length};
+ghost use Rattle.record.specs.Grid.{decode};
 ghost use Rattle.rules.specs.Rules.{orderInput};
 ghost use Rattle.model.specs.Order.{order};
 ghost use Rattle.model.specs.Rows.{mostRecords, recordSize, rows, wholeRecords};
 ghost use Rattle.model.specs.Sound.{sound};
+ghost use Rattle.directory.specs.Directory.{Directory};
 ghost use Rattle.reply.specs.Left.{answerLeft, bookLeft};
-ghost use Rattle.tables.specs.Bucket.{keyBucket, steadyBucket};
-ghost use Rattle.tables.specs.Table.{Indexed};
 
 pub mod estimate;
 pub mod judge;
 pub mod post;
+pub mod terms;
 
 use crate::estimate::estimated;
-use crate::estimate::terms_of;
 use crate::judge::judge;
 use crate::post::answer_row;
 use crate::post::post;
-use model::Status;
-use record::row::Row;
+use crate::terms::terms_of;
+use directory::totals::Totals;
+use kinds::inputs::OrderInput;
+use reply::Ended;
 use reply::done;
 use shelf::put::put;
-use tables::table::Slots;
 
 // What an order gives on a book that is sound: the book and the answer of the rules, and where it is refused both areas
 // as they were.
-pub fn order(
-    book: &mut [u8],
-    keys: &[u16; Slots::ALL],
-    steady: &[u16; Slots::ALL],
-    input: Row,
-    answer: &mut [u8],
-) -> Status
-    requires { ⌜ Indexed keyBucket (now book) (now keys) 0 ⌝ }
-    requires { ⌜ Indexed steadyBucket (now book) (now steady) 0 ⌝ }
+pub fn order(book: &mut [u8], dir: &mut [u16], t: Totals, input: &[u8], answer: &mut [u8]) -> Ended
+    requires { ⌜ Directory (now book) (now dir) t ⌝ }
     requires { ⌜ (sound (rows (now book)) ≡ true) × (wholeRecords mostRecords (length (now book)) ≡ true) ⌝ }
-    requires { ⌜ (orderInput input ≡ true) × (length (now answer) ≡ recordSize) ⌝ }
-    ensures { λ s. ⌜ s ≡ order (rows (now (book .entry))) input .status ⌝ }
-    ensures { λ _. ⌜ now (book .exit) ≡ bookLeft (order (rows (now (book .entry))) input) (now (book .entry)) ⌝ }
+    requires { ⌜ (length (now input) ≡ recordSize) × (orderInput (decode (now input)) ≡ true) ⌝ }
+    requires { ⌜ length (now answer) ≡ recordSize ⌝ }
+    ensures { λ r. ⌜ r .status ≡ order (rows (now (book .entry))) (decode (now (input .entry))) .status ⌝ }
     ensures { λ _.
-        ⌜ now (answer .exit) ≡ answerLeft (order (rows (now (book .entry))) input) (now (answer .entry)) ⌝ }
+        let o = order (rows (now (book .entry))) (decode (now (input .entry))) in
+        ⌜ now (book .exit) ≡ bookLeft o (now (book .entry)) ⌝ }
+    ensures { λ _.
+        let o = order (rows (now (book .entry))) (decode (now (input .entry))) in
+        ⌜ now (answer .exit) ≡ answerLeft o (now (answer .entry)) ⌝ }
+    ensures { λ r. ⌜ Directory (now (book .exit)) (now (dir .exit)) (r .totals) ⌝ }
 {
-    let terms = terms_of(book, keys, steady, input);
-    let estimate = estimated(book, keys, input, terms);
-    let s = judge(book, input, terms, estimate);
+    let given = OrderInput::from_bytes(input);
+    let terms = terms_of(book, dir, t, given);
+    let estimate = estimated(book, dir, given, terms);
+    let s = judge(t, given, terms, estimate);
     if done(s) {
-        post(book, input, terms, estimate);
+        let totals = post(book, dir, t, given, terms, estimate);
         put(answer, 0, answer_row(terms, estimate));
+        return Ended { status: s, totals };
     }
-    s
+    Ended {
+        status: s,
+        totals: t,
+    }
 }

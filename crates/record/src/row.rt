@@ -123,7 +123,7 @@ fn put_symbol(bytes: &mut [u8; Grid::SIZE], x: Symbol)
     bytes[Grid::SYMBOL + 7] = s[7];
 }
 
-fn copy(to: &mut [u8], from: &[u8])
+pub fn copy(to: &mut [u8], from: &[u8])
     requires { ⌜ length (now to) ≡ length (now from) ⌝ }
     ensures { λ _. ⌜ now (to .exit) ≡ now (from .entry) ⌝ }
 {

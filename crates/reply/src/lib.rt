@@ -8,11 +8,18 @@ ghost use Rattle.model.specs.Call.{either, refusalArea};
 ghost use Rattle.model.specs.Rows.{recordSize};
 ghost use Rattle.model.specs.Plan.{also};
 ghost use Rattle.reply.specs.Refusal.{refusal};
+use directory::totals::Totals;
 use model::Status;
 use record::bytes::bits32;
 use record::row::Row;
 use shelf::place::nothing;
 use shelf::put::put;
+
+// How an inner call ends: its status, and the totals of the book that it leaves.
+pub struct Ended {
+    pub status: Status,
+    pub totals: Totals,
+}
 
 // The number of a status.
 pub fn code(s: Status) -> i32

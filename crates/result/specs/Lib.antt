@@ -1,9 +1,6 @@
-pub mod Rows
-pub mod Add
-pub mod Change
 pub mod Place
-pub mod Places
-pub mod Close
 pub mod Posted
+pub mod Turns
 pub mod Post
 pub mod Whole
+pub mod Ended

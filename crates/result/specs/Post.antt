@@ -2,45 +2,52 @@
 -- the place where it stood. Assumes nothing.
 use mathlib.Core.Path.{_≡_, refl, sym, ap, _∙_}
 use mathlib.Core.Bool.{Bool, true, false, cond, false≢true, not, _&&_}
-use mathlib.Core.List.{List, [], _∷_, _++_, map, map-append}
-use Prim.Native.Nat.{ℕ, _+_, _≤_}
+use mathlib.Core.List.{List, [], _∷_, _++_, append-assoc, map, map-append, List·Memᴰ, List·Memᴰ·head, List·Memᴰ·tail}
+use Prim.Native.Nat.{ℕ, _+_, _≤_, _<_}
 use native.Mathlib.Omega.{arith}
-use lib.Dec.{leb}
-use lib.IntN.{ℤ, natAbs}
-use borrow.Author.Tests.{leb-true}
-use Rattle.laws.specs.Change.{fill, fill-append, sets, sets-append}
-use Rattle.laws.specs.Search.{place, run}
-use Rattle.laws.specs.Tests.{and-left, and-right}
-use Rattle.record.specs.Codes.{kindFree}
-use Rattle.rules.specs.Key.{keyOf}
-use Rattle.rules.specs.KeyLaws.{same-keys}
-use Rattle.rules.specs.declared.key.Key.{Key}
-use Rattle.record.specs.declared.row.Row.{Row}
+use lib.Dec.{eqb}
+use lib.IntN.{negℤ}
+use lib.ListN.{length, take, getD, length-take}
+use lib.Seq.{getD-take}
+use borrow.Author.Tests.{eqb-false}
+use Rattle.laws.specs.All.{All, all-of-each}
+use Rattle.laws.specs.Search.{place}
+use Rattle.record.specs.Codes.{kindAccount, kindBroker, kindFree, kindLot, kindSummary, kindTrade}
 use Rattle.record.specs.Signed.{up}
-use Rattle.rules.specs.Meaning.{means-result-input}
-use Rattle.rules.specs.Ranges.{brokerTrades, commissionTotal, moneyMost, sharesMost, time}
-use Rattle.rules.specs.Rules.{resultInput}
+use Rattle.record.specs.declared.row.Row.{Row}
+use Rattle.kinds.specs.Inputs.{resultInputOf}
+use Rattle.kinds.specs.Kinds.{accountOf, brokerOf, lotOf, summaryOf, tradeOf}
+use Rattle.kinds.specs.Written.{accountRow, brokerRow, lotRow, summaryRow, tradeRow}
+use Rattle.rules.specs.KeyLaws.{same-keys}
+use Rattle.rules.specs.Key.{keyOf}
+use Rattle.rules.specs.Meaning.{means-account, means-broker, means-fits, means-lot, means-summary, means-trade}
+use Rattle.rules.specs.Rules.{as-kind, fits}
+use Rattle.rules.specs.Typed.{account-written, broker-written, lot-written, summary-written, trade-written}
+use Rattle.rules.specs.declared.key.Key.{Key}
 use Rattle.model.specs.Flags.{cash}
-use Rattle.model.specs.Lots.{Closing, all-shares, closings, start, step, walk}
-use Rattle.model.specs.Result.{Figures, View, accountChanges, brokerAfter, closedLots, closingRows, figures, gone}
-use Rattle.model.specs.Result.{holding, lotChanges, posting, summaryChanges, summaryGone, summedShares, tradeAfter}
-use Rattle.model.specs.Result.{view}
-use Rattle.model.specs.Sound.{sound}
+use Rattle.model.specs.Lots.{Closing, closings}
 use Rattle.model.specs.Names.{aBroker, aSummary, aTrade, anAccount}
-use Rattle.model.specs.Rows.{found, hasKey, is, nothing, rows, sameRow, there}
-use Rattle.facts.specs.Found.{found-has, found-kind, found-live, found-member}
-use Rattle.facts.specs.Sound.{named-there, names-account, names-broker}
+use Rattle.model.specs.Result.{accountChanges, brokerAfter, closedLots, closingRows, figures, gone, holding, lotChanges}
+use Rattle.model.specs.Result.{posting, signed, summaryChanges, summaryGone, summedShares, sumsOf, tradeAfter, view}
+use Rattle.model.specs.Rows.{found, hasKey, is, nothing, there}
+use Rattle.model.specs.Sound.{sound}
+use Rattle.model.specs.SoundMeans.{means-sound}
+use Rattle.facts.specs.Found.{found-has, found-live}
+use Rattle.facts.specs.Keys.{of-live}
 use Rattle.facts.specs.Posted.{frees}
-use Rattle.verdict.specs.declared.figures.Figures as code
-use Rattle.verdict.specs.declared.figures.Terms.{Terms}
-use Rattle.verdict.specs.Judge.{Passed, inRange, resultRows}
-use Rattle.verdict.specs.Figures.{figuresOf, termsOf, trade-shares}
-use Rattle.result.specs.declared.change.Places.{Places}
-use Rattle.result.specs.Add.{Added, ownAdded}
-use Rattle.result.specs.Close.{closed}
-use Rattle.result.specs.Posted.{posted-by-place}
-use Rattle.result.specs.Change.{accountPut, changePuts, placesOf, summaryFree, summaryPut}
-use Rattle.result.specs.Place.{placed, spot}
+use Rattle.facts.specs.Result.{Read, reads, writes}
+use Rattle.facts.specs.Sound.{named-there, names-account, names-broker}
+use Rattle.shelf.specs.Rows.{rowAt}
+use Rattle.verdict.specs.declared.figures.Figures.{Figures}
+use Rattle.verdict.specs.declared.terms.Terms.{Terms}
+use Rattle.verdict.specs.Figures.{figuresBy, figuresOf, walkOf}
+use Rattle.verdict.specs.Judge.{Passed}
+use Rattle.verdict.specs.Terms.{brokerRead, placesOf, termsOf}
+use Rattle.posting.specs.declared.close.Closed.{Closed}
+use Rattle.posting.specs.Add.{ownAdded}
+use Rattle.posting.specs.Change.{accountPut, brokerPut, changePuts, summaryFree, summaryPut, tradePut}
+use Rattle.posting.specs.Close.{freed, partPut}
+use Rattle.result.specs.Place.{at-member, placed, spot, spot-at}
 
 -- ---- a row that is found stands where its key does
 spot-found : (k : Key) (rs : List Row) → there k rs ≡ true → spot rs (found k rs) ≡ place (hasKey k) rs
@@ -48,165 +55,201 @@ unfolding hasKey
 spot-found k rs e =
     ap (λ (x : Key). place (hasKey x) rs) (same-keys (keyOf (found k rs)) k (found-has k rs e))
 
--- ---- the changes by place
+-- ---- one row or none, by place
 at-place : {A : Type 0} (f : A → ℕ × Row) (t : Bool) (x : A) (w : ℕ × Row) → (t ≡ true → f x ≡ w)
     → map f (cond t (x ∷ []) []) ≡ cond t (w ∷ []) []
 at-place f true x w e = ap (λ (y : ℕ × Row). y ∷ []) (e refl)
 at-place f false x w e = refl
 
+free-place : (rs : List Row) (t : Bool) (o : Row) (p : ℕ) → (t ≡ true → spot rs o ≡ p)
+    → map (placed rs) (frees (cond t (o ∷ []) [])) ≡ cond t ((p, nothing) ∷ []) []
+free-place rs true o p e = ap (λ (n : ℕ). (n, nothing) ∷ []) (e refl)
+free-place rs false o p e = refl
+
 and-held : (a b : Bool) → (not a && b) ≡ true → a ≡ false
 and-held false b e = refl
 and-held true b e = absurd (false≢true e)
 
-module _ (rs : List Row) (k : Key) where
-  abbrev it : Row
-  it = found k rs
+-- ---- rows at places where they stand
+free-places : (rs : List Row) (ps : List ℕ) → All (λ (p : ℕ). spot rs (getD rs p nothing) ≡ p) ps
+    → map (placed rs) (frees (map (λ (p : ℕ). getD rs p nothing) ps)) ≡ freed ps
+free-places rs [] h = refl
+free-places rs (p ∷ ps) h =
+    rw (h p (List·Memᴰ·head refl), free-places rs ps (λ q m. h q (List·Memᴰ·tail m)))
 
-  abbrev at : ℕ
-  at = place (hasKey k) rs
-
-  summary-puts : (t : Row) → map (placed rs) (summaryChanges t it) ≡ summaryPut t it at
-  summary-puts t =
-      let z = summedShares t it in
-      at-place (placed rs) (not (is kindFree it) && not (gone z)) (it, holding it z) (at, holding it z)
-      (λ h.
-      ap (λ (n : ℕ). (n, holding it z))
-      (spot-found k rs (found-live rs k (and-held (is kindFree it) (not (gone z)) h))))
-
-  summary-frees : (t : Row) → map (placed rs) (frees (summaryGone t it)) ≡ summaryFree t it at
-  summary-frees t =
-      let g = gone (summedShares t it) in
-      go (not (is kindFree it) && g) (λ h. spot-found k rs (found-live rs k (and-held (is kindFree it) g h)))
-    where
-      go : (c : Bool) → (c ≡ true → spot rs it ≡ at)
-          → map (placed rs) (frees (cond c (it ∷ []) [])) ≡ cond c ((at, nothing) ∷ []) []
-      go true e = ap (λ (n : ℕ). (n, nothing) ∷ []) (e refl)
-      go false e = refl
-
-  account-puts : (t : Row) (z : ℤ) → there k rs ≡ true
-      → map (placed rs) (accountChanges t it z) ≡ accountPut t it z at
-  account-puts t z e =
-      at-place (placed rs) (cash (t .flags)) (it, holding it z) (at, holding it z)
-      (λ h. ap (λ (n : ℕ). (n, holding it z)) (spot-found k rs e))
-
-freed-places : (rs os : List Row) → map (placed rs) (frees os) ≡ map (λ (p : ℕ). (p, nothing)) (map (spot rs) os)
-freed-places rs [] = refl
-freed-places rs (o ∷ os) = ap (λ (l : List (ℕ × Row)). (spot rs o, nothing) ∷ l) (freed-places rs os)
-
--- ---- all of them in turn
-module _ (rs : List Row) (input : Row) (v : View) (f : Figures) (k : Key) where
+-- ---- what is read and written of a trade that is there
+module _ (rs : List Row) (x : Row) (good : sound rs ≡ true) (p : Passed rs x) where
   abbrev t : Row
-  t = v .trade
+  t = view rs x .trade
 
-  abbrev b : Row
-  b = found k rs
+  abbrev a : Row
+  a = view rs x .account
 
-  abbrev cs : List Closing
-  cs = closings (t .n1) (v .lots)
+  abbrev s : Row
+  s = view rs x .summary
 
-  -- the changes and what goes, as the rules have them
-  abbrev pub writes : List (Row × Row)
-  writes =
-      posting input v f .changes ++ (b, brokerAfter b (f .commission)) ∷ [] ++ frees (posting input v f .freed)
+  abbrev k : Row
+  k = brokerRead rs x
 
-  by-place : (at : Places) {part : List (ℕ × Row)} {ps : List ℕ}
-      → part ≡ map (placed rs) (lotChanges t cs) → ps ≡ map (spot rs) (closedLots cs)
-      → map (placed rs) (summaryChanges t (v .summary)) ≡ summaryPut t (v .summary) (at .summary)
-      → map (placed rs) (frees (summaryGone t (v .summary))) ≡ summaryFree t (v .summary) (at .summary)
-      → map (placed rs) (accountChanges t (v .account) (f .balance)) ≡ accountPut t (v .account) (f .balance) (at .account)
-      → spot rs t ≡ at .trade → spot rs b ≡ at .broker → (l : List Row)
-      → sets (summaryFree t (v .summary) (at .summary))
-      (sets (map (λ (p : ℕ). (p, nothing)) ps)
-      (sets
-      (summaryPut t (v .summary) (at .summary)
-      ++ accountPut t (v .account) (f .balance) (at .account)
-      ++ (at .trade, tradeAfter t (input .n1) (f .commission) (f .tax) (input .time))
-      ∷ (at .broker, brokerAfter b (f .commission))
-      ∷ [])
-      (sets part l)))
-      ≡ sets (map (placed rs) writes) l
-  unfolding posting sets
-  by-place at {part} {ps} part-is ps-is summary-is gone-is account-is trade-is broker-is l =
-      simp (map-append, sets-append)
-      (rw (part-is, ps-is, ← summary-is, ← gone-is, ← account-is, ← trade-is, ← broker-is, ← freed-places rs (closedLots cs)))
+  abbrev pub cs : List Closing
+  cs = closings (t .n1) (view rs x .lots)
 
--- ---- what the code needs of a result that it posts
-module _ (rs : List Row) (input : Row) {t : Terms} {f : code.Figures} (good : sound rs ≡ true)
-    (right : resultInput input ≡ true) (read : t ≡ termsOf rs input) (reckoned : f ≡ figuresOf rs input) where
-  pub left-fits : up (f .walk .need .0) ≤ sharesMost
-  unfolding figuresOf termsOf figures walk
-  left-fits =
-      let v = view rs input in
-      let t = v .trade in
-      let all = all-shares (t .form) (input .n1) (start (t .n1)) (v .lots) in
-      let most : t .n1 ≤ sharesMost = trade-shares rs input good refl in
-      let fits : run (step (t .form) (input .n1)) (start (t .n1)) (v .lots) .need ≤ sharesMost = omega arith in
-      rw reckoned fits
+  pub read : Read rs t s a k cs
+  read = reads rs x good (p .there) (p .sent)
 
-  pub time-fits : input .time ≤ time .high
-  time-fits = means-result-input input .shows right .2 .2 .2 .2 .2 .2 .2 .2 .2 .2 .2 .2 .2 .1
+  fit : (r : Row) → List·Memᴰ r rs → fits r ≡ true
+  fit r m = means-fits r .holds (means-sound rs .shows good .s1 r m)
 
-pub broker-fits : (f : code.Figures) {r b : Row} → r ≡ b → inRange b f ≡ true
-    → (r .n1 + 1 ≤ brokerTrades .high) × (r .m1 + up (f .commission .0) ≤ commissionTotal .high)
-broker-fits f {r} {b} e h =
-    let near = leb (natAbs (f .balance .0)) moneyMost in
-    let trades = leb (b .n1 + 1) (brokerTrades .high) in
-    let total = leb (b .m1 + up (f .commission .0)) (commissionTotal .high) in
-    let both = and-left (near && trades) total h in
-    rw e (
-      leb-true (b .n1 + 1) (brokerTrades .high) (and-right near trades both),
-      leb-true (b .m1 + up (f .commission .0)) (commissionTotal .high) (and-right (near && trades) total h),
-    )
+  -- each typed value is that of its row
+  pub trade-is : tradeRow (tradeOf t) ≡ t
+  trade-is =
+      trade-written t (means-trade t .shows (as-kind kindTrade t (read .t-kind) ∙ fit t (read .t-held)))
 
--- ---- the rows that it leaves are those of the rules
-regrouped : (cs os ss fs l : List Row)
-    → fill sameRow nothing (os ++ ss ++ fs) (fill sameRow nothing cs l) ≡ fill sameRow nothing (cs ++ os ++ ss ++ fs) l
-regrouped cs os ss fs l = simp (fill-append)
+  account-is : accountRow (accountOf a) ≡ a
+  account-is =
+      account-written a (means-account a .shows (as-kind kindAccount a (read .a-kind) ∙ fit a (read .a-held)))
 
-module _ (b : List ℕ) (input : Row) (good : sound (rows b) ≡ true) where
-  abbrev rs : List Row
-  rs = rows b
+  broker-is : brokerRow (brokerOf k) ≡ k
+  broker-is =
+      broker-written k (means-broker k .shows (as-kind kindBroker k (read .b-kind) ∙ fit k (read .b-held)))
 
-  pub all-posted : (t : Terms) (f : code.Figures) → t ≡ termsOf rs input → f ≡ figuresOf rs input → Passed rs t f
-      → {at : Places} → at ≡ placesOf rs (input .id) (t .trade) (t .account)
-      → {broker : Row} → broker ≡ found (aBroker (t .account .n1)) rs
-      → (b₁ b₂ b₃ b₄ b₅ b₆ : List ℕ) {part : List (ℕ × Row)} {ps : List ℕ} {next last : ℕ}
-      → Added (closingRows (t .trade) (closed rs (t .trade))) b b₁ next
-      → part ≡ map (placed rs) (lotChanges (t .trade) (closed rs (t .trade)))
-      → ps ≡ map (spot rs) (closedLots (closed rs (t .trade)))
-      → Added (ownAdded input t f) b₁ b₂ last
-      → rows b₃ ≡ sets part (rows b₂)
-      → rows b₄ ≡ sets (changePuts at input t f broker) (rows b₃)
-      → rows b₅ ≡ sets (map (λ (p : ℕ). (p, nothing)) ps) (rows b₄)
-      → rows b₆ ≡ sets (summaryFree (t .trade) (t .summary) (at .summary)) (rows b₅)
-      → rows b₆ ≡ resultRows rs input
-  unfolding termsOf figuresOf resultRows view posting
-  all-posted t f read reckoned =
-      rw (read, reckoned)
-      (λ p at at-is broker broker-is b₁ b₂ b₃ b₄ b₅ b₆ part ps next last first part-is ps-is second third fourth
-      fifth sixth.
-      let v = view rs input in
-      let g = figures input v in
-      let tk = aTrade (input .id) in
-      let ak = anAccount (v .trade .party) in
-      let sk = aSummary (v .trade .party) (v .trade .symbol) in
-      let bk = aBroker (v .account .n1) in
-      let t-there = found-live rs tk (p .there) in
-      let t-held = found-member rs tk t-there in
-      let a-there =
-      named-there rs good (v .trade) ak _ t-held (names-account (v .trade) (found-kind rs tk t-there))
-      in
-      let a-held = found-member rs ak a-there in
-      let b-there =
-      named-there rs good (v .account) bk _ a-held (names-broker (v .account) (found-kind rs ak a-there))
-      in
-      let added : rows b₂ ≡ fill sameRow nothing (posting input v g .added) rs =
-      second .filled ∙ rw (first .filled)
-      (regrouped (closingRows (v .trade) (closed rs (v .trade))) _ _ _ rs)
-      in
-      sixth ∙ rw (fifth, fourth, third, added, at-is, broker-is)
-      (by-place rs input v g bk (placesOf rs (input .id) (v .trade) (v .account)) part-is ps-is
-      (summary-puts rs sk (v .trade)) (summary-frees rs sk (v .trade))
-      (account-puts rs ak (v .trade) (g .balance) a-there) (spot-found tk rs t-there) (spot-found bk rs b-there)
-      (fill sameRow nothing (posting input v g .added) rs)
-      ∙ sym (posted-by-place rs input good (p .there) (p .sent))))
+  summary-is : is kindFree s ≡ false → summaryRow (summaryOf s) ≡ s
+  summary-is live =
+      let h = read .s-held live in
+      summary-written s (means-summary s .shows (as-kind kindSummary s (h .1) ∙ fit s (h .0)))
+
+  pub lot-is : (l : Row) → List·Memᴰ l rs → l .kind ≡ kindLot → lotRow (lotOf l) ≡ l
+  lot-is l m e = lot-written l (means-lot l .shows (as-kind kindLot l e ∙ fit l m))
+
+  -- and stands at its place
+  trade-there : there (aTrade (x .id)) rs ≡ true
+  unfolding view
+  trade-there = found-live rs (aTrade (x .id)) (p .there)
+
+  account-there : there (anAccount (t .party)) rs ≡ true
+  account-there =
+      named-there rs good t (anAccount (t .party)) _ (read .t-held) (names-account t (read .t-kind))
+
+  broker-there : there (aBroker (a .n1)) rs ≡ true
+  broker-there = named-there rs good a (aBroker (a .n1)) _ (read .a-held) (names-broker a (read .a-kind))
+
+  abbrev T : Terms
+  T = termsOf rs x
+
+  abbrev G : Figures
+  G = figuresOf rs x
+
+  trade-spot : spot rs t ≡ T .at .trade
+  unfolding view termsOf placesOf
+  trade-spot = spot-found (aTrade (x .id)) rs trade-there
+
+  account-spot : spot rs a ≡ T .at .account
+  unfolding view termsOf placesOf
+  account-spot = spot-found (anAccount (found (aTrade (x .id)) rs .party)) rs account-there
+
+  broker-spot : spot rs k ≡ T .at .broker
+  unfolding view termsOf placesOf
+  broker-spot =
+      spot-found (aBroker (found (anAccount (found (aTrade (x .id)) rs .party)) rs .n1)) rs broker-there
+
+  summary-spot : is kindFree s ≡ false → spot rs s ≡ T .at .summary
+  unfolding view termsOf placesOf
+  summary-spot live =
+      let key = aSummary (found (aTrade (x .id)) rs .party) (found (aTrade (x .id)) rs .symbol) in
+      spot-found key rs (found-live rs key live)
+
+  -- ---- the changes by place
+  summary-puts : map (placed rs) (summaryChanges t s) ≡ summaryPut T (G .shares)
+  unfolding termsOf figuresOf figuresBy tradeOf summaryOf
+  summary-puts =
+      let z = summedShares t s in
+      at-place (placed rs) (not (is kindFree s) && not (gone z)) (s, holding s z)
+      (T .at .summary, holding (summaryRow (T .summary)) z)
+      (λ h.
+      let live = and-held (is kindFree s) (not (gone z)) h in
+      rw (summary-spot live, summary-is live))
+
+  summary-frees : map (placed rs) (frees (summaryGone t s)) ≡ summaryFree T (G .shares)
+  unfolding termsOf figuresOf figuresBy tradeOf summaryOf
+  summary-frees =
+      let z = summedShares t s in
+      free-place rs (not (is kindFree s) && gone z) s (T .at .summary)
+      (λ h. summary-spot (and-held (is kindFree s) (gone z) h))
+
+  account-puts : map (placed rs) (accountChanges t a (figures x (view rs x) .balance)) ≡ accountPut T (G .balance)
+  unfolding termsOf figuresOf figuresBy walkOf figures tradeOf accountOf resultInputOf
+  account-puts =
+      let z = figures x (view rs x) .balance in
+      at-place (placed rs) (cash (t .flags)) (a, holding a z) (T .at .account, holding (accountRow (T .account)) z)
+      (λ h. rw (account-spot, account-is))
+
+  trade-put : let f = figures x (view rs x) in
+      placed rs (t, tradeAfter t (x .n1) (f .commission) (f .tax) (x .time))
+      ≡ tradePut (resultInputOf x) T G
+  unfolding termsOf figuresOf figuresBy walkOf figures tradeOf accountOf resultInputOf
+  trade-put = rw (trade-spot, trade-is)
+
+  broker-put : placed rs (k, brokerAfter k (figures x (view rs x) .commission)) ≡ brokerPut T G
+  unfolding termsOf figuresOf figuresBy walkOf figures tradeOf accountOf resultInputOf
+  broker-put = rw (broker-spot, broker-is)
+
+  -- ---- all of them, as the rules have them
+  abbrev pub all : List (Row × Row)
+  all = writes t s a k cs (sumsOf x (figures x (view rs x)))
+
+  pub by-place : {part : List (ℕ × Row)} (ps : List ℕ) → part ≡ map (placed rs) (lotChanges t cs)
+      → freed ps ≡ map (placed rs) (frees (closedLots cs))
+      → part ++ changePuts (resultInputOf x) T G ++ freed ps ++ summaryFree T (G .shares) ≡ map (placed rs) all
+  by-place ps e f =
+      rw (e, f, ← summary-puts, ← summary-frees, ← account-puts, ← trade-put, ← broker-put)
+      (simp (map-append, append-assoc))
+
+  -- ---- the lots at their places
+  module _ (at : List ℕ) (n : ℕ) (long : n ≤ length at)
+      (each : (j : ℕ) → j < n → (getD at j 0 < length rs) × (getD rs (getD at j 0) nothing .kind ≡ kindLot)) where
+    pub lot-live : (j : ℕ) → j < n → is kindFree (getD rs (getD at j 0) nothing) ≡ false
+    lot-live j h = of-live kindLot (getD rs (getD at j 0) nothing) refl (each j h .1)
+
+    lot-spot : (j : ℕ) → j < n → spot rs (getD rs (getD at j 0) nothing) ≡ getD at j 0
+    lot-spot j h = spot-at rs good (getD at j 0) (each j h .0) (lot-live j h)
+
+    pub lots-freed : (g : ℕ) → g ≤ n → map (λ (q : ℕ). getD rs q nothing) (take g at) ≡ closedLots cs
+        → freed (take g at) ≡ map (placed rs) (frees (closedLots cs))
+    lots-freed g h e =
+        rw (← e)
+        (sym (free-places rs (take g at)
+        (all-of-each (λ (q : ℕ). spot rs (getD rs q nothing) ≡ q) 0 (take g at)
+        (λ j m.
+        let l : length (take g at) ≡ g = rw length-take (omega arith) in
+        let q : j < g = omega arith in
+        rw (getD-take g at j 0 q) (lot-spot j (omega arith))))))
+
+    pub lot-put : (c : Closed) (b : List ℕ)
+        → (let l = getD rs (getD at (c .gone) 0) nothing in
+        lotChanges t cs
+        ≡ cond (eqb (up (c .left .0)) 0) [] ((l, holding l (negℤ (signed (t .form) (up (c .left .0))))) ∷ []))
+        → ((up (c .left .0) ≡ 0 → ⊥) → c .gone < n)
+        → ((q : ℕ) → is kindFree (getD rs q nothing) ≡ false → rowAt b q ≡ getD rs q nothing)
+        → partPut (T .trade) b at c ≡ map (placed rs) (lotChanges t cs)
+    unfolding termsOf tradeOf
+    lot-put c b e inside keeps = go (eqb (up (c .left .0)) 0) refl
+      where
+        q : ℕ
+        q = getD at (c .gone) 0
+
+        l : Row
+        l = getD rs q nothing
+
+        go : (u : Bool) → eqb (up (c .left .0)) 0 ≡ u → partPut (T .trade) b at c ≡ map (placed rs) (lotChanges t cs)
+        go true u = rw (e, u)
+        go false u =
+            let h = inside (eqb-false (up (c .left .0)) 0 u) in
+            let live = lot-live (c .gone) h in
+            let k = each (c .gone) h in
+            rw (e, u, keeps q live, lot-is l (at-member nothing rs q (k .0)) (k .1), lot-spot (c .gone) h)
+
+  -- ---- the rows that are added
+  pub all-added : closingRows (tradeRow (T .trade)) cs ++ ownAdded (resultInputOf x) T G
+      ≡ posting x (view rs x) (figures x (view rs x)) .added
+  unfolding termsOf figuresOf figuresBy walkOf figures tradeOf accountOf summaryOf resultInputOf posting
+  all-added = rw trade-is (simp append-assoc)

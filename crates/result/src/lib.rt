@@ -1,56 +1,65 @@
-// Trade-Result, on a book that is known to be sound: it is judged on the book as it is, and then posted.
-ghost use mathlib.Core.Path.{_≡_};
+// Trade-Result, on a book that is known to be sound and its directory: it is judged on the book as it is, and then
+// posted.
 ghost use mathlib.Core.Bool.{true};
+ghost use mathlib.Core.Path.{_≡_};
 ghost use lib.ListN.{length};
+ghost use Rattle.record.specs.Grid.{decode};
 ghost use Rattle.rules.specs.Rules.{resultInput};
 ghost use Rattle.model.specs.Result.{result};
 ghost use Rattle.model.specs.Rows.{mostRecords, recordSize, rows, wholeRecords};
 ghost use Rattle.model.specs.Sound.{sound};
+ghost use Rattle.shelf.specs.Rows.{putAt};
 ghost use Rattle.reply.specs.Left.{answerLeft, bookLeft};
-ghost use Rattle.tables.specs.Bucket.{keyBucket, steadyBucket};
-ghost use Rattle.tables.specs.Table.{Indexed};
+ghost use Rattle.directory.specs.Directory.{Directory};
+ghost use Rattle.result.specs.Ended.{answerOf};
 
-mod add;
-mod change;
-mod close;
 mod post;
-mod rows;
 
 use crate::post::post;
-use crate::rows::answer_row;
-use model::Status;
-use record::row::Row;
+use directory::totals::Totals;
+use kinds::inputs::ResultInput;
+use kinds::rows::Trade;
+use posting::rows::answer_row;
+use reply::Ended;
 use reply::done;
 use shelf::put::put;
-use tables::table::Slots;
-use verdict::figures::figured;
-use verdict::figures::terms_of;
+use sorted::Sorted;
+use verdict::figures::Figures;
+use verdict::figures::reckoned;
 use verdict::judge::judge;
+use verdict::lots::lots_of;
+use verdict::terms::terms_of;
+
+fn write_answer(answer: &mut [u8], trade: Trade, figures: Figures)
+    ensures { λ _. ⌜ now (answer .exit) ≡ putAt (now (answer .entry)) 0 (answerOf trade figures) ⌝ }
+{
+    put(answer, 0, answer_row(trade, figures));
+}
 
 // What a result gives on a book that is sound: the book and the answer of the rules, and where it is refused both areas
 // as they were.
-pub fn result(
-    book: &mut [u8],
-    keys: &[u16; Slots::ALL],
-    steady: &[u16; Slots::ALL],
-    input: Row,
-    answer: &mut [u8],
-) -> Status
-    requires { ⌜ Indexed keyBucket (now book) (now keys) 0 ⌝ }
-    requires { ⌜ Indexed steadyBucket (now book) (now steady) 0 ⌝ }
+pub fn result(book: &mut [u8], dir: &mut [u16], t: Totals, input: &[u8], answer: &mut [u8]) -> Ended
+    requires { ⌜ Directory (now book) (now dir) t ⌝ }
     requires { ⌜ (sound (rows (now book)) ≡ true) × (wholeRecords mostRecords (length (now book)) ≡ true) ⌝ }
-    requires { ⌜ (resultInput input ≡ true) × (length (now answer) ≡ recordSize) ⌝ }
-    ensures { λ s. ⌜ s ≡ result (rows (now (book .entry))) input .status ⌝ }
-    ensures { λ _. ⌜ now (book .exit) ≡ bookLeft (result (rows (now (book .entry))) input) (now (book .entry)) ⌝ }
-    ensures { λ _.
-        ⌜ now (answer .exit) ≡ answerLeft (result (rows (now (book .entry))) input) (now (answer .entry)) ⌝ }
+    requires { ⌜ (length (now input) ≡ recordSize) × (resultInput (decode (now input)) ≡ true) ⌝ }
+    requires { ⌜ length (now answer) ≡ recordSize ⌝ }
+    ensures { λ r. ⌜ r .status ≡ result (rows (now (book .entry))) (decode (now (input .entry))) .status ⌝ }
+    ensures { λ _. ⌜ now (book .exit)
+        ≡ bookLeft (result (rows (now (book .entry))) (decode (now (input .entry)))) (now (book .entry)) ⌝ }
+    ensures { λ _. ⌜ now (answer .exit)
+        ≡ answerLeft (result (rows (now (book .entry))) (decode (now (input .entry)))) (now (answer .entry)) ⌝ }
+    ensures { λ r. ⌜ Directory (now (book .exit)) (now (dir .exit)) (r .totals) ⌝ }
 {
-    let terms = terms_of(book, keys, steady, input);
-    let figures = figured(book, keys, input, terms);
-    let s = judge(book, keys, terms, figures);
-    if done(s) {
-        post(book, keys, input, terms, figures);
-        put(answer, 0, answer_row(terms.trade, figures));
+    let what = ResultInput::from_bytes(input);
+    let terms = terms_of(book, dir, what);
+    let mut at = [0; Sorted::MOST];
+    let n = lots_of(book, dir, terms, &mut at);
+    let figures = reckoned(book, &at, n, what, terms);
+    let status = judge(t.free, terms, figures);
+    if done(status) {
+        let totals = post(book, dir, t, &at, n, what, terms, figures);
+        write_answer(answer, terms.trade, figures);
+        return Ended { status, totals };
     }
-    s
+    Ended { status, totals: t }
 }

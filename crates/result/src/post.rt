@@ -1,46 +1,44 @@
-// What a result that is accepted does to the book. All places are found first. Then rows are added, and after them rows
-// are changed or freed, so that no row comes to stand where another has just gone.
-ghost use mathlib.Core.Bool.{true};
+// What a result that is accepted does to the book. Rows are added first, and after them rows are changed or freed, each
+// where it was found, so that no row comes to stand where another has just gone.
 ghost use mathlib.Core.Path.{_≡_};
-ghost use Rattle.rules.specs.Rules.{resultInput};
 ghost use Rattle.model.specs.Rows.{rows};
-ghost use Rattle.model.specs.Sound.{sound};
-ghost use Rattle.tables.specs.Bucket.{keyBucket};
-ghost use Rattle.tables.specs.Table.{Indexed};
-ghost use Rattle.verdict.specs.Figures.{figuresOf, termsOf};
-ghost use Rattle.verdict.specs.Judge.{Passed, resultRows};
-use crate::add::add_own;
-use crate::change::change;
-use crate::change::find_places;
-use crate::change::free_summary;
-use crate::close::add_closings;
-use crate::close::free_lots;
-use crate::close::lot_places;
-use crate::close::reduce;
-use queue::Queue;
-use record::codes::Kind;
-use record::row::Row;
-use tables::table::Slots;
-use tables::table::party_row;
+ghost use Rattle.directory.specs.Directory.{Directory};
+ghost use Rattle.verdict.specs.Judge.{resultRows};
+ghost use Rattle.verdict.specs.Terms.{inputRow};
+ghost use Rattle.result.specs.Whole.{Posts};
+use directory::totals::Totals;
+use kinds::inputs::ResultInput;
+use posting::add::add_own;
+use posting::change::change_rows;
+use posting::change::free_summary;
+use posting::close::add_closings;
+use posting::close::free_lots;
+use posting::close::reduce;
+use sorted::Sorted;
 use verdict::figures::Figures;
-use verdict::figures::Terms;
+use verdict::terms::Terms;
+use walk::Walk;
 
-pub fn post(book: &mut [u8], keys: &[u16; Slots::ALL], input: Row, terms: Terms, figures: Figures)
-    requires { ⌜ Indexed keyBucket (now book) (now keys) 0 ⌝ }
-    requires { ⌜ (sound (rows (now book)) ≡ true) × (resultInput input ≡ true) ⌝ }
-    requires { ⌜ (terms ≡ termsOf (rows (now book)) input) × (figures ≡ figuresOf (rows (now book)) input) ⌝ }
-    requires { ⌜ Passed (rows (now book)) terms figures ⌝ }
-    ensures { λ _. ⌜ rows (now (book .exit)) ≡ resultRows (rows (now (book .entry))) input ⌝ }
+pub fn post(
+    book: &mut [u8],
+    dir: &mut [u16],
+    t: Totals,
+    at: &[u16; Sorted::MOST],
+    n: usize,
+    input: ResultInput,
+    terms: Terms,
+    figures: Figures,
+) -> Totals
+    requires { ⌜ Posts (now book) (now dir) (now at) n t input terms figures ⌝ }
+    ensures { λ _. ⌜ rows (now (book .exit)) ≡ resultRows (rows (now (book .entry))) (inputRow input) ⌝ }
+    ensures { λ r. ⌜ Directory (now (book .exit)) (now (dir .exit)) r ⌝ }
 {
     let trade = terms.trade;
-    let broker = party_row(book, keys, Kind::BROKER, terms.account.n1);
-    let to = find_places(book, keys, input.id, terms);
-    let mut at = [0; Queue::MOST];
-    let count = lot_places(book, keys, trade, terms.summary, &mut at);
-    let closed = add_closings(book, &at, count, trade);
-    add_own(book, closed.next, input, terms, figures);
-    reduce(book, trade, closed.place, closed.lot, closed.left);
-    change(book, to, input, terms, figures, broker);
-    free_lots(book, &at, count, closed.gone);
-    free_summary(book, to.summary, trade, terms.summary);
+    let start = Walk::start(trade.trade_type, input.price, trade.shares);
+    let closed = add_closings(book, dir, t, at, n, trade, start);
+    let more = add_own(book, dir, closed.totals, input, terms, figures);
+    reduce(book, dir, more, at, closed, trade);
+    change_rows(book, dir, more, input, terms, figures);
+    let less = free_lots(book, dir, more, at, closed.gone);
+    free_summary(book, dir, less, terms, figures.shares)
 }

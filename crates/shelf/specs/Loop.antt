@@ -3,12 +3,12 @@
 use mathlib.Core.Path.{_≡_, refl, sym, ap, _∙_}
 use mathlib.Core.Bool.{Bool, true, false}
 use mathlib.Core.List.{List}
-use Prim.Native.Nat.{ℕ, _+_, _*_, _/_, _≤_, _<_, max}
-use native.Mathlib.Nat.{mul-suc, zero-add, zero-max}
+use Prim.Native.Nat.{ℕ, _+_, _*_, _/_, _≤_, _<_}
+use native.Mathlib.Nat.{mul-suc, zero-add}
 use native.Mathlib.Numerals.{add-one}
 use native.Mathlib.Omega.{arith}
 use lib.ListN.{length, drop}
-use Rattle.laws.specs.Search.{every, largest, place, seek, total}
+use Rattle.laws.specs.Search.{every, place, seek, total}
 use Rattle.laws.specs.Walk.{left-next, left-none, seek-end, seek-here, seek-later}
 use Rattle.record.specs.declared.row.Row.{Row}
 use Rattle.model.specs.Rows.{nothing, rows}
@@ -102,32 +102,6 @@ module _ {f : Row → ℕ} {m : ℕ} {b : List ℕ} {w sum i : ℕ} (s : Summed 
       let q = s .same in
       omega arith
 
--- ---- the largest
-pub record Topped (f : Row → ℕ) (b : List ℕ) (w top i : ℕ) : Type 0 where
-  pub same : max top (largest f (drop i (rows b))) ≡ w
-
-pub top-start : (f : Row → ℕ) (b : List ℕ) → Topped f b (largest f (rows b)) 0 0
-top-start f b = record { same = zero-max (largest f (rows b)) }
-
-module _ {f : Row → ℕ} {b : List ℕ} {w top i : ℕ} (s : Topped f b w top i) where
-  pub top-more : {x y : ℕ} {r : Row} → i < length b / 64 → r ≡ rowAt b i → x ≡ f r → y ≡ max top x
-      → Topped f b w y (i + 1)
-  unfolding largest
-  top-more {x} {y} h a g m =
-      let e : x ≡ f (rowAt b i) = g ∙ ap f a in
-      let t : largest f (drop i (rows b)) ≡ max x (largest f (drop (i + 1) (rows b))) =
-      rw (left-next (rows b) i nothing (inside b i h), e)
-      in
-      let q = s .same in
-      record { same = omega arith }
-
-  pub top-all : length b / 64 ≤ i → top ≡ w
-  unfolding largest
-  top-all h =
-      let t : largest f (drop i (rows b)) ≡ 0 = rw (left-none (rows b) i (at-end b i h)) in
-      let q = s .same in
-      omega arith
-
 pub ruleset loops = (
   seek-start,
   seek-from,
@@ -141,7 +115,4 @@ pub ruleset loops = (
   sum-start,
   sum-more,
   sum-all,
-  top-start,
-  top-more,
-  top-all,
 )

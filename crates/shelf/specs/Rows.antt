@@ -1,6 +1,6 @@
 -- A book's rows by place: the row read at a place, the rows after a row is put at one, and the lowest free place.
 -- Assumes nothing.
-use mathlib.Core.Path.{_≡_, refl, ap, _∙_}
+use mathlib.Core.Path.{_≡_, refl, sym, ap, _∙_}
 use mathlib.Core.Bool.{Bool, true, false, cond}
 use mathlib.Core.List.{List, []}
 use mathlib.Core.Logic.{_⊎_, inl, inr, ⊎-elim}
@@ -8,14 +8,14 @@ use Prim.Native.Nat.{ℕ, _+_, _*_, _/_, _≤_, _<_}
 use native.Mathlib.Omega.{arith}
 use borrow.Author.Tests.{lt-ltb, le-ltb, ltb-true, ltb-false}
 use lib.Dec.{ltb}
-use lib.ListN.{length, drop, getD, set, List·getD-map, List·getD-eq-default}
+use lib.ListN.{length, drop, getD, set, replicate, List·getD-map, List·getD-eq-default}
 use lib.Seq.{set-out}
 use Rattle.laws.specs.Chunk.{chunk, part, splice, chunk-at, chunk-splice, length-splice, map-set}
 use Rattle.laws.specs.Search.{seek}
 use Rattle.record.specs.Codes.{kindFree}
 use Rattle.record.specs.Grid.{decode, encode, decode-encode, length-encode, Sized}
 use Rattle.record.specs.declared.row.Row.{Row}
-use Rattle.model.specs.Rows.{is, nothing, rows}
+use Rattle.model.specs.Rows.{is, nothing, places, recordSize, rows}
 use Rattle.facts.specs.Rows.{length-rows}
 
 -- the row at a place, nothing past the end
@@ -29,6 +29,11 @@ rows-at b i h =
 
 pub rows-past : (b : List ℕ) (i : ℕ) → length b / 64 ≤ i → rowAt b i ≡ nothing
 rows-past b i h = List·getD-eq-default (rows b) nothing (rw length-rows h)
+
+-- past the end a row is that of zeros
+pub past-row : (b : List ℕ) (i : ℕ) → places b ≤ i → decode (replicate recordSize 0) ≡ rowAt b i
+unfolding decode
+past-row b i h = sym (rows-past b i h)
 
 in-or-past : (i n : ℕ) → (i < n) ⊎ (n ≤ i)
 in-or-past i n = go (ltb i n) refl

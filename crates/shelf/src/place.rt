@@ -7,6 +7,8 @@ ghost use Rattle.model.specs.Rows.{nothing, places, recordSize};
 ghost use Rattle.shelf.specs.Rows.{rowAt};
 use record::row::Grid;
 use record::row::Row;
+use record::row::copy;
+use record::row::places;
 use record::symbol::Symbol;
 
 // The row of a free record.
@@ -49,4 +51,15 @@ pub fn row_at(book: &[u8], i: usize) -> Row
         return Row::read(part(book, i));
     }
     nothing()
+}
+
+// The bytes of the record at a place, zeros past the end: for a typed row that may not be there.
+pub fn record_at(book: &[u8], i: usize) -> [u8; Grid::SIZE]
+    ensures { λ r. ⌜ (length r ≡ recordSize) × (decode r ≡ rowAt (now (book .entry)) i) ⌝ }
+{
+    let mut r = [0u8; Grid::SIZE];
+    if i < places(book) {
+        copy(&mut r, part(book, i));
+    }
+    r
 }

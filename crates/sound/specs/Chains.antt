@@ -33,20 +33,21 @@ kindOf r = r .kind
 
 -- ---- the chains
 pub record NoChains (b t : List ℕ) : Type 0 where
-  pub long : length t ≡ kindHeads + mostRecords
+  pub long : kindHeads + length b / 64 ≤ length t
   pub all : (h : ℕ) → h < kindHeads → getD t h 0 ≡ length b / 64
 
 pub record ByKind (b t : List ℕ) (i : ℕ) : Type 0 where
   pub within : i ≤ length b / 64
   pub few : length b / 64 ≤ mostRecords
-  pub long : length t ≡ kindHeads + mostRecords
+  pub long : kindHeads + length b / 64 ≤ length t
   pub known : (j : ℕ) → i ≤ j → j < length b / 64 → rowAt b j .kind ≤ 16
   pub chained : Chained kindOf nothing kindHeads (rows b) t i
 
-pub no-chains : (b : List ℕ) (e : ℕ) → e ≡ length b / 64 → NoChains b (replicate (kindHeads + mostRecords) e)
-no-chains b e q = record {
-  long = length-replicate (kindHeads + mostRecords) e;
-  all = λ h k. getD-replicate (kindHeads + mostRecords) h e 0 (omega arith) ∙ q;
+pub no-chains : (b : List ℕ) (n e : ℕ) → e ≡ length b / 64 → kindHeads + length b / 64 ≤ n
+    → NoChains b (replicate n e)
+no-chains b n e q room = record {
+  long = rw length-replicate room;
+  all = λ h k. getD-replicate n h e 0 (omega arith) ∙ q;
 }
 
 pub kinds-start : {b t : List ℕ} → NoChains b t → length b / 64 ≤ mostRecords → ByKind b t (length b / 64)
@@ -83,6 +84,10 @@ module _ {b t : List ℕ} {i : ℕ} (s : ByKind b t i) where
       all-known x u y true e m n = rw (eqb-true x (i - 1) e) (omega arith)
       all-known x u y false e m n =
           let f : (x ≡ i - 1 → ⊥) = eqb-false x (i - 1) e in s .known x (omega arith) y
+
+  -- a kind has a head
+  pub head-low : {h k : ℕ} → k ≤ 16 → h ≡ k → h < length t
+  head-low k z = let l = s .long in omega arith
 
   pub kinds-end : i ≤ 0 → ByKind b t 0
   kinds-end h = let e : i ≡ 0 = omega arith in rw e at s
@@ -224,6 +229,7 @@ pub ruleset chains = (
   no-chains,
   kinds-start,
   kinds-more,
+  head-low,
   kinds-end,
   kinds-not,
   kinds-less,

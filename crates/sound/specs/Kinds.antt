@@ -10,7 +10,7 @@ use lib.ListN.{length, getD}
 use borrow.Author.Tests.{eqb-false, eqb-true, ltb-false, ltb-true, ne-eqb}
 use Rattle.laws.specs.Place.{every-place}
 use Rattle.laws.specs.Tests.{and-both, and-left, and-right, and-true}
-use Rattle.record.specs.Codes.{kindSummary, kindTrade}
+use Rattle.record.specs.Codes.{kindLot, kindRequest, kindSummary, kindTrade}
 use Rattle.rules.specs.Key.{among}
 use Rattle.record.specs.declared.row.Row.{Row}
 use Rattle.rules.specs.Rules.{fits}
@@ -19,6 +19,7 @@ use Rattle.model.specs.Sound.{each, s1, s2, sound}
 use Rattle.facts.specs.Rows.{length-rows}
 use Rattle.shelf.specs.Rows.{rowAt}
 use Rattle.facts.specs.Names.{of-five}
+use Rattle.chains.specs.Group.{apart}
 use Rattle.sound.specs.Chains.{ByKind, Going, go-all, go-more, sound-fits, sound-hung, sound-last}
 use Rattle.sound.specs.Chains.{kindHeads, sound-own}
 use Rattle.sound.specs.Distinct.{last-unique, lastAt}
@@ -59,6 +60,9 @@ well-next {b} {k} s t = record { all = λ j h e. go j h e (ltb (rowAt b j .kind)
     go : (j : ℕ) → j < length b / 64 → rowAt b j .kind < k + 1 → (x : Bool) → ltb (rowAt b j .kind) k ≡ x → WellAt b j
     go j h e true u = s .all j h (ltb-true (rowAt b j .kind) k u)
     go j h e false u = let n = ltb-false (rowAt b j .kind) k u in t .all j h (omega arith)
+
+pub kind-fits : {b : List ℕ} {k : ℕ} → WellTo b k → (i : ℕ) → i < k → KindFits b i
+kind-fits s i l = record { all = λ j h e. s .all j h (omega arith) .fit }
 
 pub well-to : {b : List ℕ} {k : ℕ} → WellTo b k → (i : ℕ) → i ≡ k → WellTo b i
 well-to s i e = rw e s
@@ -130,6 +134,18 @@ own-first rs r k e h =
     let n : hangs r ≡ false = ap (λ (x : ℕ). among x hungKinds) e ∙ h in
     rw n (and-true (ownWell rs r))
 
+-- and it is neither a lot nor a request
+pub by-itself : (r : Row) → hangs r ≡ false → apart (r .kind) ≡ false
+by-itself r h = go (is kindLot r) (is kindRequest r) refl refl
+  where
+    none : (k : ℕ) → is k r ≡ true → among k hungKinds ≡ true → ⊥
+    none k e m = false≢true (sym h ∙ ap (λ (x : ℕ). among x hungKinds) (eqb-true (r .kind) k e) ∙ m)
+
+    go : (t u : Bool) → is kindLot r ≡ t → is kindRequest r ≡ u → apart (r .kind) ≡ false
+    go true u e f = absurd (none kindLot e refl)
+    go false true e f = absurd (none kindRequest f refl)
+    go false false e f = rw (e, f)
+
 -- no kind up to the trades hangs on one
 pub low-kind : (k : ℕ) → k < 10 → among k hungKinds ≡ false
 low-kind k h =
@@ -185,15 +201,15 @@ own-all g h = record { all = go-all g h }
 abbrev pub FitsAt : List ℕ → ℕ → Type 0
 FitsAt b j = fits (rowAt b j) ≡ true
 
-module _ {b : List ℕ} {k c : ℕ} {x : Bool} {r : Row} (g : Going (FitsAt b) b k c) (inside : c < length b / 64)
-    (row : r ≡ rowAt b c) (is-x : x ≡ fits r) where
+module _ {b : List ℕ} {k c : ℕ} {x : Bool} (g : Going (FitsAt b) b k c) (inside : c < length b / 64)
+    (is-x : x ≡ fits (rowAt b c)) where
   pub fit-more : {t : List ℕ} {u : ℕ} → ByKind b t 0 → x ≡ true → u ≡ getD t (kindHeads + c) 0 → Going (FitsAt b) b k u
-  fit-more s e q = go-more s g inside (ap fits (sym row) ∙ sym is-x ∙ e) q
+  fit-more s e q = go-more s g inside (sym is-x ∙ e) q
 
   pub fit-not : x ≡ false → sound (rows b) ≡ false
   fit-not e =
       refuted (sound (rows b))
-      (λ good. false≢true (sym e ∙ is-x ∙ ap fits row ∙ sound-fits b good c inside))
+      (λ good. false≢true (sym e ∙ is-x ∙ sound-fits b good c inside))
 
 pub fit-all : {b : List ℕ} {k c : ℕ} → Going (FitsAt b) b k c → length b / 64 ≤ c → KindFits b k
 fit-all g h = record { all = go-all g h }

@@ -11,4 +11,6 @@ pub mod Slots
 pub mod Chains
 pub mod Kinds
 pub mod Turn
+pub mod Spelt
+pub mod Told
 pub mod Status

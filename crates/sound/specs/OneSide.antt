@@ -30,7 +30,7 @@ use Rattle.model.specs.Names.{aSummary, aTrade}
 use Rattle.model.specs.Rows.{found, hasKey, is, nothing, there}
 use Rattle.model.specs.Sound.{each, equalZ, lotOf, lotRight, otherSign, s1, s8, sharesOf, short, summaryRight}
 use Rattle.facts.specs.Names.{by-holder}
-use Rattle.tables.specs.Sums.{sharesPart}
+use Rattle.groups.specs.Sums.{sharesPart}
 
 -- what is counted and what is summed are none together
 none-alike : {A : Type 0} (p : A → Bool) (f : A → ℕ) (l : List A)

@@ -22,7 +22,7 @@ use Rattle.model.specs.Names.{aRequest, anAccount, named}
 use Rattle.model.specs.Rows.{found, hasKey, is, there}
 use Rattle.model.specs.Sound.{agrees, equalZ, lotOf, namesKnown, s2}
 use Rattle.model.specs.Sound.{sharesOf}
-use Rattle.tables.specs.Sums.{sharesPart, side}
+use Rattle.groups.specs.Sums.{sharesPart, side}
 use Rattle.sound.specs.OneSide.{summaryKept}
 use Rattle.sound.specs.Once.{once-and}
 

@@ -184,7 +184,7 @@ allPast = 17 * 4096
 
 pub record MarkedTo (b : List ℕ) (w : ℕ) (m : List ℕ) : Type 0 where
   pub few : length b / 64 ≤ mostRecords
-  pub long : length m ≡ 8 * mostRecords
+  pub long : 8 * (length b / 64) ≤ length m
   pub marked : Marked (slotAt b) (Past b w) m
 
 -- ---- at a trade of a book that keeps S1 and S2, all marked

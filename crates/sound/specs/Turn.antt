@@ -21,7 +21,7 @@ use Rattle.model.specs.Sound.{sound}
 use Rattle.facts.specs.Rows.{length-rows}
 use Rattle.shelf.specs.Rows.{rowAt}
 use Rattle.facts.specs.Names.{of-five, other-kind}
-use Rattle.tables.specs.Table.{key-row, key-there}
+use Rattle.directory.specs.Found.{key-row, key-there}
 use Rattle.sound.specs.ByRow.{rule-kept, rule-lost}
 use Rattle.sound.specs.Chains.{ByKind, Going, go-all, go-more, go-start, head-clear, kindHeads, link-clear}
 use Rattle.sound.specs.Chains.{kinds-less, sound-fits, sound-hangs, sound-last}
@@ -37,6 +37,7 @@ noSlot = 8 * mostRecords
 -- the row at i is well, and s is its slot and free
 pub record Hangs (b m : List ℕ) (i s : ℕ) : Type 0 where
   pub at : s ≡ slotAt b i
+  pub low : s < length m
   pub free : getD m s 0 ≡ 0
   pub fit : fits (rowAt b i) ≡ true
   pub well : hungWell (rows b) (rowAt b i) ≡ true
@@ -52,15 +53,19 @@ hung-free a h e = false≢true (ap (λ (k : ℕ). among k hungKinds) (sym e) ∙
 pub row-hangs : {r a : Row} → r ≡ a → hangs a ≡ true → hangs r ≡ true
 row-hangs e h = ap hangs e ∙ h
 
+-- and the same row read again
+pub same-trade : (b : List ℕ) {r s a : Row} {p : ℕ} → r ≡ a → s ≡ a → p ≡ place (hasKey (aTrade (r .id))) (rows b)
+    → p ≡ place (hasKey (aTrade (s .id))) (rows b)
+same-trade b e f h = h ∙ ap (λ (x : Row). place (hasKey (aTrade (x .id))) (rows b)) (e ∙ sym f)
+
 module _ {b m : List ℕ} {i : ℕ} {r : Row} (inside : i < length b / 64) (hanging : hangs (rowAt b i) ≡ true)
     (marked : MarkedTo b (rowAt b i .kind * 4096 + i) m) (row : r ≡ rowAt b i) where
   none : sound (rows b) ≡ false → Hanged b m i noSlot
   none e = record { yes = λ h. absurd (omega arith); no = λ h. e }
 
-  pub hang-unfit : {x : Bool} → x ≡ fits r → not x ≡ true → Hanged b m i noSlot
+  pub hang-unfit : {x : Bool} → x ≡ fits (rowAt b i) → not x ≡ true → Hanged b m i noSlot
   hang-unfit h e =
-      none (refuted (sound (rows b))
-      (λ good. false≢true (sym (rule-lost h e) ∙ ap fits row ∙ sound-fits b good i inside)))
+      none (refuted (sound (rows b)) (λ good. false≢true (sym (rule-lost h e) ∙ sound-fits b good i inside)))
 
   module _ {p : ℕ} (at-trade : p ≡ place (hasKey (aTrade (r .id))) (rows b)) where
     trade-there : ltb p (length b / 64) ≡ there (aTrade (rowAt b i .id)) (rows b)
@@ -95,10 +100,10 @@ module _ {b m : List ℕ} {i : ℕ} {r : Row} (inside : i < length b / 64) (hang
           in
           false≢true (sym (rule-lost fits-found e) ∙ fit)))
 
-      module _ {y : Bool} {o : ℕ} (is-y : y ≡ fits r) (fit : not y ≡ false) (like : not x ≡ false)
+      module _ {y : Bool} {o : ℕ} (is-y : y ≡ fits (rowAt b i)) (fit : not y ≡ false) (like : not x ≡ false)
           (low : p < length b / 64) (is-o : o ≡ offset r) where
         fit-here : fits (rowAt b i) ≡ true
-        fit-here = ap fits (sym row) ∙ rule-kept is-y fit
+        fit-here = rule-kept is-y fit
 
         slot-is : p * 8 + o ≡ slotAt b i
         unfolding home
@@ -113,10 +118,19 @@ module _ {b m : List ℕ} {i : ℕ} {r : Row} (inside : i < length b / 64) (hang
             let n = length-rows b in
             omega arith
 
+        small : o < 8
+        small = rw (is-o, row) (small-offset (rows b) (rowAt b i) fit-here hanging)
+
+        pub slot-in : p * 8 + o < length m
+        slot-in =
+            let long = marked .long in
+            let short = small in
+            omega arith
+
         pub slot-low : p * 8 + o < noSlot
         slot-low =
             let few = marked .few in
-            let short : o < 8 = rw (is-o, row) (small-offset (rows b) (rowAt b i) fit-here hanging) in
+            let short = small in
             omega arith
 
         pub hang-here : getD m (p * 8 + o) 0 ≡ 0 → Hanged b m i (p * 8 + o)
@@ -124,6 +138,7 @@ module _ {b m : List ℕ} {i : ℕ} {r : Row} (inside : i < length b / 64) (hang
         hang-here z = record {
           yes = λ h. record {
             at = slot-is;
+            low = slot-in;
             free = z;
             fit = fit-here;
             well = and-both (there (aTrade (rowAt b i .id)) (rows b))
@@ -167,6 +182,12 @@ pub record Hanging (b : List ℕ) (k c : ℕ) (m : List ℕ) : Type 0 where
 hung-kind : (k : ℕ) → among k hungKinds ≡ true → k ≤ 16
 hung-kind k h =
     of-five (λ (x : ℕ). x ≤ 16) k 10 11 12 15 16 (omega arith) (omega arith) (omega arith) (omega arith) (omega arith) h
+
+pub hung-head : {b t : List ℕ} {k : ℕ} → ByKind b t 0 → among k hungKinds ≡ true → k < length t
+hung-head {k = k} s h =
+    let low = hung-kind k h in
+    let long = s .long in
+    omega arith
 
 -- the places up to w are those up to v
 marked-to : {b m : List ℕ} {w : ℕ} → MarkedTo b w m → (v : ℕ)
@@ -340,22 +361,23 @@ marked-gap {b} s =
     below j i k l z = let few = s .few in omega arith
 
 -- nothing is marked yet
-pub marks-start : (b : List ℕ) → length b / 64 ≤ mostRecords → MarkedTo b (10 * 4096) (replicate noSlot 0)
-marks-start b few = record {
+pub marks-start : (b : List ℕ) (n : ℕ) → length b / 64 ≤ mostRecords → 8 * (length b / 64) ≤ n
+    → MarkedTo b (10 * 4096) (replicate n 0)
+marks-start b n few room = record {
   few = few;
-  long = length-replicate {A = ℕ} noSlot 0;
-  marked = marked-none (slotAt b) (Past b (10 * 4096)) (replicate noSlot 0) (λ s. blank s (ltb s noSlot) refl)
+  long = rw length-replicate room;
+  marked = marked-none (slotAt b) (Past b (10 * 4096)) (replicate n 0) (λ s. blank s (ltb s n) refl)
       (λ j p.
       let e = p .early in
       hung-among (λ (k : ℕ). k * 4096 + j < 10 * 4096 → ⊥) (λ z. omega arith) (λ z. omega arith) (λ z. omega arith)
       (λ z. omega arith) (λ z. omega arith) (rowAt b j) (p .hung) e);
 }
   where
-    blank : (s : ℕ) (t : Bool) → ltb s noSlot ≡ t → _≡_ {A = ℕ} (getD (replicate noSlot 0) s 0) 0
-    blank s true e = getD-replicate noSlot s 0 0 (ltb-true s noSlot e)
+    blank : (s : ℕ) (t : Bool) → ltb s n ≡ t → _≡_ {A = ℕ} (getD (replicate n 0) s 0) 0
+    blank s true e = getD-replicate n s 0 0 (ltb-true s n e)
     blank s false e =
-        let zeros : List ℕ = replicate noSlot 0 in
-        let l : length zeros ≤ s = rw length-replicate (ltb-false s noSlot e) in
+        let zeros : List ℕ = replicate n 0 in
+        let l : length zeros ≤ s = rw length-replicate (ltb-false s n e) in
         List·getD-eq-default zeros 0 l
 
 pub ruleset hangings = (
@@ -366,7 +388,9 @@ pub ruleset hangings = (
   hang-unlike,
   hang-here,
   hang-twice,
+  slot-in,
   slot-low,
+  hung-head,
   hang-start,
   hang-kind,
   hang-marked,

@@ -1,23 +1,21 @@
 // The places of a book chained by kind, so that its rows can be gone through kind by kind.
 ghost use mathlib.Core.Path.{_≡_};
-ghost use Prim.Native.Nat.{_/_, _≤_};
-ghost use lib.ListN.{length};
+ghost use Prim.Native.Nat.{_+_, _/_, _≤_, _<_};
+ghost use lib.ListN.{getD, length};
 ghost use Rattle.model.specs.Rows.{mostRecords, rows};
 ghost use Rattle.model.specs.Sound.{sound};
-ghost use Rattle.sound.specs.Chains.{ByKind, NoChains};
+ghost use Rattle.sound.specs.Chains.{ByKind, NoChains, kindHeads};
 ghost use Rattle.sound.specs.Says.{Says};
+use chains::chain::narrow;
 use record::codes::Kind;
 use record::row::Grid;
 use shelf::place::row_at;
-use tables::table::narrow;
 
 // The first place of each kind, and then, for each place, the next of its kind. The number of records stands for none.
 pub struct Links {}
 
 impl Links {
     pub const HEADS: usize = 17;
-
-    pub const ALL: usize = 4_113;
 }
 
 pub fn index(kind: u8) -> usize
@@ -26,11 +24,33 @@ pub fn index(kind: u8) -> usize
     kind as usize
 }
 
+fn wide(x: u16) -> usize
+    ensures { λ r. ⌜ r ≡ x ⌝ }
+{
+    x as usize
+}
+
+// The first place of a kind.
+pub fn first(links: &[u16], kind: u8) -> usize
+    requires { ⌜ kind < length (now links) ⌝ }
+    ensures { λ r. ⌜ r ≡ getD (now (links .entry)) kind 0 ⌝ }
+{
+    wide(links[index(kind)])
+}
+
+// The next place of the kind of a place.
+pub fn next(links: &[u16], at: usize) -> usize
+    requires { ⌜ kindHeads + at < length (now links) ⌝ }
+    ensures { λ r. ⌜ r ≡ getD (now (links .entry)) (kindHeads + at) 0 ⌝ }
+{
+    wide(links[Links::HEADS + at])
+}
+
 // Chains the places, the last first. A book with a row of no kind is unsound.
-pub fn chain(book: &[u8], kinds: &mut [u16; Links::ALL]) -> bool
+pub fn chain(book: &[u8], links: &mut [u16]) -> bool
     requires { ⌜ length (now book) / 64 ≤ mostRecords ⌝ }
-    requires { ⌜ NoChains (now book) (now kinds) ⌝ }
-    ensures { λ r. ⌜ Says r (ByKind (now (book .entry)) (now (kinds .exit)) 0) (sound (rows (now (book .entry)))) ⌝ }
+    requires { ⌜ NoChains (now book) (now links) ⌝ }
+    ensures { λ r. ⌜ Says r (ByKind (now (book .entry)) (now (links .exit)) 0) (sound (rows (now (book .entry)))) ⌝ }
 {
     let mut i = book.len() / Grid::SIZE;
     while 0 < i {
@@ -40,8 +60,8 @@ pub fn chain(book: &[u8], kinds: &mut [u16; Links::ALL]) -> bool
             return false;
         }
         let k = index(row.kind);
-        kinds[Links::HEADS + j] = kinds[k];
-        kinds[k] = narrow(j);
+        links[Links::HEADS + j] = links[k];
+        links[k] = narrow(j);
         i = j;
     }
     true

@@ -10,38 +10,41 @@ ghost use Rattle.model.specs.Names.{aTrade};
 ghost use Rattle.model.specs.Rows.{found, rows};
 ghost use Rattle.model.specs.Sound.{s1, s2, sound};
 ghost use Rattle.shelf.specs.Rows.{rowAt};
-ghost use Rattle.tables.specs.Bucket.{keyBucket};
-ghost use Rattle.tables.specs.Table.{Indexed};
+ghost use Rattle.directory.specs.Listed.{Listed};
 ghost use Rattle.sound.specs.Chains.{ByKind};
-ghost use Rattle.sound.specs.Kinds.{KindWell, TradesHung};
+ghost use Rattle.sound.specs.Kinds.{KindFits, KindWell, TradesHung};
 ghost use Rattle.sound.specs.Hung.{fitsTrade, hangs, hung, hungKinds, offset};
 ghost use Rattle.sound.specs.Says.{Says};
 ghost use Rattle.sound.specs.Slots.{MarkedTo, allPast};
 ghost use Rattle.sound.specs.Turn.{Hanged};
-use crate::chain::Links;
+use crate::chain::first;
 use crate::chain::index;
+use crate::chain::next;
 use crate::holding::held;
 use crate::trade::asked;
 use crate::trade::due;
 use crate::trade::one;
 use crate::trade::settles;
-use fields::row_fits;
+use directory::typed::trade;
+use fields::fits_beside;
+use kinds::units::TradeNo;
 use record::codes::Kind;
 use record::codes::TradeStatus;
 use record::codes::TradeType;
 use record::row::Grid;
 use record::row::Row;
+use shelf::place::part;
 use shelf::place::row_at;
-use tables::table::Slots;
-use tables::table::by_id;
-use tables::table::wide;
 
 // Eight marks for each place: a trade's are those of its request (0), its histories (their status), its lot (5), its
 // settlement (6) and its cash (7).
 pub struct Marks {}
 
 impl Marks {
-    pub const ALL: usize = 32_768;
+    pub const EACH: usize = 8;
+
+    // As many as any book has: no mark's number.
+    pub const NONE: usize = 32_768;
 }
 
 fn offset(r: Row) -> usize
@@ -59,84 +62,81 @@ fn offset(r: Row) -> usize
 }
 
 // A row fits its trade.
-fn fits_trade(book: &[u8], keys: &[u16; Slots::ALL], t: Row, r: Row) -> bool
-    requires { ⌜ Indexed keyBucket (now book) (now keys) 0 ⌝ }
+fn fits_trade(book: &[u8], dir: &[u16], t: Row, r: Row) -> bool
+    requires { ⌜ Listed (now book) (now dir) ⌝ }
     requires { ⌜ (hangs r ≡ true) × (t ≡ found (aTrade (r .id)) (rows (now book))) ⌝ }
     ensures { λ b. ⌜ b ≡ fitsTrade (rows (now (book .entry))) t r ⌝ }
 {
     let kind = r.kind;
     match kind {
         Kind::TRADE_HISTORY => r.status <= t.status,
-        Kind::LOT => held(book, keys, t, r),
+        Kind::LOT => held(book, dir, t, r),
         Kind::SETTLEMENT => settles(t, r),
-        Kind::CASH => due(book, keys, r),
-        _ => asked(book, keys, t, r),
+        Kind::CASH => due(book, dir, r),
+        _ => asked(book, dir, t, r),
     }
 }
 
-// The slot of the row at i where that is well and no row before it has the slot, else the number of marks.
-fn slot_at(book: &[u8], keys: &[u16; Slots::ALL], marks: &[u8; Marks::ALL], i: usize) -> usize
-    requires { ⌜ Indexed keyBucket (now book) (now keys) 0 ⌝ }
+// The slot of the row at i where that is well and no row before it has the slot, else no mark's number. Its symbol is
+// mostly that of its trade, which fits, so that it is spelled right.
+fn slot_at(book: &[u8], dir: &[u16], marks: &[u8], i: usize) -> usize
+    requires { ⌜ Listed (now book) (now dir) ⌝ }
     requires { ⌜ (i < length (now book) / 64) × (hangs (rowAt (now book) i) ≡ true) ⌝ }
     requires { ⌜ MarkedTo (now book) (rowAt (now book) i .kind * 4096 + i) (now marks) ⌝ }
+    requires { ⌜ KindFits (now book) kindTrade ⌝ }
     ensures { λ r. ⌜ Hanged (now (book .entry)) (now (marks .entry)) i r ⌝ }
 {
-    let row = row_at(book, i);
-    if !row_fits(row) {
-        return Marks::ALL;
-    }
-    let p = by_id(book, keys, Kind::TRADE, row.id);
+    let p = trade(book, dir, TradeNo(row_at(book, i).id));
     if book.len() / Grid::SIZE <= p {
-        return Marks::ALL;
+        return Marks::NONE;
     }
-    if !fits_trade(book, keys, row_at(book, p), row) {
-        return Marks::ALL;
+    if !fits_beside(part(book, i), row_at(book, p).symbol) {
+        return Marks::NONE;
     }
-    let s = p * 8 + offset(row);
+    let row = row_at(book, i);
+    if !fits_trade(book, dir, row_at(book, p), row) {
+        return Marks::NONE;
+    }
+    let s = p * Marks::EACH + offset(row);
     if marks[s] != 0 {
-        return Marks::ALL;
+        return Marks::NONE;
     }
     s
 }
 
 // S1, S2 and the rule of a row by its trade, for every row of a kind that hangs on a trade; and they are marked.
-pub fn hang(
-    book: &[u8],
-    keys: &[u16; Slots::ALL],
-    kinds: &[u16; Links::ALL],
-    marks: &mut [u8; Marks::ALL],
-    kind: u8,
-) -> bool
-    requires { ⌜ Indexed keyBucket (now book) (now keys) 0 ⌝ }
-    requires { ⌜ ByKind (now book) (now kinds) 0 ⌝ }
+pub fn hang(book: &[u8], dir: &[u16], links: &[u16], marks: &mut [u8], kind: u8) -> bool
+    requires { ⌜ Listed (now book) (now dir) ⌝ }
+    requires { ⌜ ByKind (now book) (now links) 0 ⌝ }
     requires { ⌜ among kind hungKinds ≡ true ⌝ }
     requires { ⌜ MarkedTo (now book) (kind * 4096) (now marks) ⌝ }
+    requires { ⌜ KindFits (now book) kindTrade ⌝ }
     ensures { λ r.
         let b = now (book .entry) in
         ⌜ Says r (KindWell b kind × MarkedTo b ((kind + 1) * 4096) (now (marks .exit))) (sound (rows b)) ⌝ }
 {
     let n = book.len() / Grid::SIZE;
-    let mut c = wide(kinds[index(kind)]);
+    let mut c = first(links, kind);
     while c < n {
-        let s = slot_at(book, keys, marks, c);
-        if Marks::ALL <= s {
+        let s = slot_at(book, dir, marks, c);
+        if Marks::NONE <= s {
             return false;
         }
         marks[s] = 1;
-        c = wide(kinds[Links::HEADS + c]);
+        c = next(links, c);
     }
     true
 }
 
 // What a trade asks of the rows that hang on it, by its marks.
-fn hung_at(book: &[u8], marks: &[u8; Marks::ALL], i: usize) -> bool
+fn hung_at(book: &[u8], marks: &[u8], i: usize) -> bool
     requires { ⌜ (s1 (rows (now book)) ≡ true) × (s2 (rows (now book)) ≡ true) ⌝ }
     requires { ⌜ (i < length (now book) / 64) × (rowAt (now book) i .kind ≡ kindTrade) ⌝ }
     requires { ⌜ MarkedTo (now book) allPast (now marks) ⌝ }
     ensures { λ r. ⌜ r ≡ hung (rows (now (book .entry))) (rowAt (now (book .entry)) i) ⌝ }
 {
     let t = row_at(book, i);
-    let m = i * 8;
+    let m = i * Marks::EACH;
     let request = marks[m];
     let history = marks[m + index(t.status)];
     let settlement = marks[m + 6];
@@ -150,17 +150,17 @@ fn hung_at(book: &[u8], marks: &[u8; Marks::ALL], i: usize) -> bool
         & (cash == one(done & (t.flags % 2 == 1)))
 }
 
-pub fn hung(book: &[u8], kinds: &[u16; Links::ALL], marks: &[u8; Marks::ALL]) -> bool
+pub fn hung(book: &[u8], links: &[u16], marks: &[u8]) -> bool
     requires { ⌜ (s1 (rows (now book)) ≡ true) × (s2 (rows (now book)) ≡ true) ⌝ }
-    requires { ⌜ ByKind (now book) (now kinds) 0 ⌝ }
+    requires { ⌜ ByKind (now book) (now links) 0 ⌝ }
     requires { ⌜ MarkedTo (now book) allPast (now marks) ⌝ }
     ensures { λ r. ⌜ Says r (TradesHung (now (book .entry))) (sound (rows (now (book .entry)))) ⌝ }
 {
     let n = book.len() / Grid::SIZE;
-    let mut c = wide(kinds[index(Kind::TRADE)]);
+    let mut c = first(links, Kind::TRADE);
     while c < n {
         if hung_at(book, marks, c) {
-            c = wide(kinds[Links::HEADS + c]);
+            c = next(links, c);
         } else {
             return false;
         }

@@ -2,55 +2,65 @@
 // one account and symbol have one sign is told at the summary.
 ghost use mathlib.Core.Path.{_≡_};
 ghost use mathlib.Core.Bool.{true};
+ghost use Prim.Native.Nat.{_/_, _<_};
+ghost use lib.ListN.{length};
 ghost use Rattle.model.specs.Names.{aTrade};
 ghost use Rattle.model.specs.Rows.{found, rows};
 ghost use Rattle.model.specs.Sound.{bandApart, ratesFit, s1};
+ghost use Rattle.shelf.specs.Rows.{rowAt};
+ghost use Rattle.directory.specs.Listed.{Listed};
 ghost use Rattle.sound.specs.OneSide.{lotKept, summaryKept};
-ghost use Rattle.tables.specs.Bucket.{keyBucket, steadyBucket};
-ghost use Rattle.tables.specs.Table.{Indexed};
+use directory::typed;
+use groups::sums::holding;
+use groups::sums::overlapping;
+use groups::sums::rates;
+use groups::sums::side;
 use kinds::limits::Ranges;
+use kinds::rows::Customer;
+use kinds::units::AccountNo;
 use record::codes::TradeStatus;
+use record::row::Grid;
 use record::row::Row;
-use tables::sums::holding;
-use tables::sums::overlapping;
-use tables::sums::rates;
-use tables::sums::side;
-use tables::table::Slots;
-use tables::table::summary_there;
+use shelf::place::part;
+use shelf::place::row_at;
 
-pub fn apart(book: &[u8], keys: &[u16; Slots::ALL], r: Row) -> bool
-    requires { ⌜ Indexed keyBucket (now book) (now keys) 0 ⌝ }
-    ensures { λ b. ⌜ b ≡ bandApart (rows (now (book .entry))) r ⌝ }
+// The band at a place overlaps itself alone.
+pub fn apart(book: &[u8], dir: &[u16], i: usize) -> bool
+    requires { ⌜ Listed (now book) (now dir) ⌝ }
+    ensures { λ b. ⌜ b ≡ bandApart (rows (now (book .entry))) (rowAt (now (book .entry)) i) ⌝ }
 {
-    overlapping(book, keys, r) == 1
+    overlapping(book, dir, row_at(book, i)) == 1
 }
 
-pub fn rates_fit(book: &[u8], keys: &[u16; Slots::ALL], r: Row) -> bool
-    requires { ⌜ Indexed keyBucket (now book) (now keys) 0 ⌝ }
-    ensures { λ b. ⌜ b ≡ ratesFit (rows (now (book .entry))) r ⌝ }
+// The rates of the customer at a place.
+pub fn rates_fit(book: &[u8], dir: &[u16], i: usize) -> bool
+    requires { ⌜ Listed (now book) (now dir) × (i < length (now book) / 64) ⌝ }
+    ensures { λ b. ⌜ b ≡ ratesFit (rows (now (book .entry))) (rowAt (now (book .entry)) i) ⌝ }
 {
-    rates(book, keys, r.party) <= Ranges::RATE_MOST as u64
+    let c = Customer::from_bytes(part(book, i));
+    rates(book, dir, c.no) <= Ranges::RATE_MOST as u64
 }
 
-pub fn held(book: &[u8], keys: &[u16; Slots::ALL], t: Row, l: Row) -> bool
-    requires { ⌜ Indexed keyBucket (now book) (now keys) 0 ⌝ }
+pub fn held(book: &[u8], dir: &[u16], t: Row, l: Row) -> bool
+    requires { ⌜ Listed (now book) (now dir) ⌝ }
     requires { ⌜ t ≡ found (aTrade (l .id)) (rows (now book)) ⌝ }
     ensures { λ b. ⌜ b ≡ lotKept (rows (now (book .entry))) l ⌝ }
 {
     let symbol = t.symbol;
     let own = l.symbol;
+    let at = typed::summary(book, dir, AccountNo(l.party), own);
     (t.status == TradeStatus::COMPLETED)
         & (t.party == l.party)
         & symbol.same(own)
-        & summary_there(book, keys, l.party, l.symbol)
+        & (at < book.len() / Grid::SIZE)
 }
 
-pub fn summed(book: &[u8], steady: &[u16; Slots::ALL], s: Row) -> bool
-    requires { ⌜ Indexed steadyBucket (now book) (now steady) 0 ⌝ }
+pub fn summed(book: &[u8], dir: &[u16], s: Row) -> bool
+    requires { ⌜ Listed (now book) (now dir) ⌝ }
     requires { ⌜ s1 (rows (now book)) ≡ true ⌝ }
     ensures { λ b. ⌜ b ≡ summaryKept (rows (now (book .entry))) s ⌝ }
 {
-    let h = holding(book, steady, s.party, s.symbol);
+    let h = holding(book, dir, AccountNo(s.party), s.symbol);
     let equal = h.long + side(true, s.m1) == h.owed + side(false, s.m1);
     (1 <= h.lots) & equal & ((h.long == 0) | (h.owed == 0))
 }

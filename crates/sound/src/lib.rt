@@ -1,9 +1,11 @@
 // Whether a book is sound, kind by kind: S1, S2 and a row's own rule for the rows that are searched by their key, the
 // rows that hang on a trade marked at their trade, and then each trade by its marks; and the status of a book for any
 // bytes.
+pub mod area;
 pub mod chain;
 pub mod hang;
 pub mod holding;
+pub mod names;
 pub mod own;
 pub mod trade;
 pub mod whole;

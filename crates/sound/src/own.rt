@@ -4,124 +4,172 @@ ghost use mathlib.Core.Path.{_≡_};
 ghost use mathlib.Core.Bool.{_&&_, false, true};
 ghost use Prim.Native.Nat.{_/_, _<_, _≤_};
 ghost use lib.ListN.{length};
-ghost use Rattle.record.specs.Codes.{kindSummary};
+ghost use Rattle.record.specs.Codes.{kindSecurity, kindSummary, kindTrade};
 ghost use Rattle.rules.specs.Rules.{fits};
 ghost use Rattle.rules.specs.Key.{among};
-ghost use Rattle.model.specs.Rows.{rows};
+ghost use Rattle.model.specs.Names.{aSecurity, anAccount};
+ghost use Rattle.model.specs.Rows.{rows, there};
 ghost use Rattle.model.specs.Sound.{s1, sound};
 ghost use Rattle.shelf.specs.Rows.{rowAt};
-ghost use Rattle.tables.specs.Bucket.{keyBucket, steadyBucket};
-ghost use Rattle.tables.specs.Table.{Indexed};
+ghost use Rattle.directory.specs.Listed.{Listed};
 ghost use Rattle.sound.specs.Chains.{ByKind};
 ghost use Rattle.sound.specs.Kinds.{KindFits, KindWell, WellTo};
 ghost use Rattle.sound.specs.Distinct.{lastAt};
-ghost use Rattle.sound.specs.Hung.{hungKinds, ownWell};
+ghost use Rattle.sound.specs.Hung.{hangs, hungKinds, ownWell};
+ghost use Rattle.sound.specs.OneSide.{summaryKept};
 ghost use Rattle.sound.specs.Says.{Says};
-use crate::chain::Links;
-use crate::chain::index;
+use crate::chain::first;
+use crate::chain::next;
 use crate::holding::apart;
 use crate::holding::rates_fit;
 use crate::holding::summed;
+use crate::names::rated;
+use crate::names::served;
+use crate::names::traded;
 use crate::trade::done;
-use fields::row_fits;
+use chains::chain;
+use directory::find::again;
+use directory::typed::account;
+use directory::typed::security;
+use fields::fits;
+use fields::fits_beside;
+use kinds::rows::Trade;
+use kinds::units::AccountNo;
 use record::codes::Kind;
 use record::row::Grid;
-use record::row::Row;
+use shelf::place::part;
 use shelf::place::row_at;
-use tables::table::Slots;
-use tables::table::again;
-use tables::table::party_there;
-use tables::table::security_there;
-use tables::table::wide;
 
-// The key of the row at i stands nowhere after it.
-fn last(book: &[u8], keys: &[u16; Slots::ALL], i: usize, row: Row) -> bool
-    requires { ⌜ Indexed keyBucket (now book) (now keys) 0 ⌝ }
-    requires { ⌜ (i < length (now book) / 64) × (row ≡ rowAt (now book) i) ⌝ }
+// S1 of the record at a place, by its own bytes.
+fn fit_at(book: &[u8], i: usize) -> bool
+    requires { ⌜ i < length (now book) / 64 ⌝ }
+    ensures { λ r. ⌜ r ≡ fits (rowAt (now (book .entry)) i) ⌝ }
+{
+    fits(part(book, i))
+}
+
+// The key of the row at i stands nowhere after it: the chain of its group ends there, or has no such row.
+fn last(book: &[u8], dir: &[u16], i: usize) -> bool
+    requires { ⌜ Listed (now book) (now dir) ⌝ }
+    requires { ⌜ (i < length (now book) / 64) × (hangs (rowAt (now book) i) ≡ false) ⌝ }
     ensures { λ r. ⌜ r ≡ lastAt (now (book .entry)) i ⌝ }
 {
+    let n = book.len() / Grid::SIZE;
+    if n <= chain::next(dir, i) {
+        return true;
+    }
+    let row = row_at(book, i);
     if row.kind == Kind::FREE {
         return true;
     }
-    book.len() / Grid::SIZE <= again(book, keys, i, row)
+    n <= again(book, dir, i, row)
 }
 
-// A row's own rule. What it tells is not looked for again: the trades of a lot history are completed, so they are in
-// the book.
-fn right(book: &[u8], keys: &[u16; Slots::ALL], steady: &[u16; Slots::ALL], r: Row) -> bool
-    requires { ⌜ Indexed keyBucket (now book) (now keys) 0 ⌝ }
-    requires { ⌜ Indexed steadyBucket (now book) (now steady) 0 ⌝ }
-    requires { ⌜ (r .kind ≡ kindSummary → s1 (rows (now book)) ≡ true) ⌝ }
-    ensures { λ b. ⌜ b ≡ ownWell (rows (now (book .entry))) r ⌝ }
+// A summary's own rule.
+fn kept(book: &[u8], dir: &[u16], i: usize) -> bool
+    requires { ⌜ Listed (now book) (now dir) × (s1 (rows (now book)) ≡ true) ⌝ }
+    ensures { λ b.
+        let rs = rows (now (book .entry)) in
+        let r = rowAt (now (book .entry)) i in
+        ⌜ b ≡ (there (anAccount (r .party)) rs && there (aSecurity (r .symbol)) rs && summaryKept rs r) ⌝ }
 {
-    let kind = r.kind;
+    let s = row_at(book, i);
+    traded(book, dir, AccountNo(s.party), s.symbol) & summed(book, dir, s)
+}
+
+// The own rule of a row that is neither a trade nor a summary. What it tells is not looked for again: the trades of a
+// lot history are completed, so they are in the book.
+fn right(book: &[u8], dir: &[u16], kind: u8, i: usize) -> bool
+    requires { ⌜ Listed (now book) (now dir) ⌝ }
+    requires { ⌜ (i < length (now book) / 64) × (rowAt (now book) i .kind ≡ kind) ⌝ }
+    requires { ⌜ (kind ≡ kindTrade → ⊥) × (kind ≡ kindSummary → ⊥) ⌝ }
+    ensures { λ b. ⌜ b ≡ ownWell (rows (now (book .entry))) (rowAt (now (book .entry)) i) ⌝ }
+{
     match kind {
         Kind::FREE => true,
         Kind::BROKER => true,
-        Kind::CUSTOMER => rates_fit(book, keys, r),
+        Kind::CUSTOMER => rates_fit(book, dir, i),
         Kind::TAX_RATE => true,
-        Kind::CUSTOMER_RATE => {
-            party_there(book, keys, Kind::CUSTOMER, r.party)
-                & party_there(book, keys, Kind::TAX_RATE, r.n1)
-        }
-        Kind::ACCOUNT => {
-            party_there(book, keys, Kind::BROKER, r.n1)
-                & party_there(book, keys, Kind::CUSTOMER, r.n2)
-        }
+        Kind::CUSTOMER_RATE => rated(book, dir, i),
+        Kind::ACCOUNT => served(book, dir, i),
         Kind::SECURITY => true,
-        Kind::BAND => apart(book, keys, r),
+        Kind::BAND => apart(book, dir, i),
         Kind::CHARGE => true,
-        Kind::TRADE => {
-            party_there(book, keys, Kind::ACCOUNT, r.party) & security_there(book, steady, r.symbol)
-        }
+        Kind::TRADE => true,
         Kind::REQUEST => true,
         Kind::TRADE_HISTORY => true,
         Kind::LOT => true,
-        Kind::SUMMARY => {
-            party_there(book, keys, Kind::ACCOUNT, r.party)
-                & security_there(book, steady, r.symbol)
-                & summed(book, steady, r)
-        }
-        Kind::LOT_HISTORY => done(book, keys, r),
+        Kind::SUMMARY => true,
+        Kind::LOT_HISTORY => done(book, dir, i),
         Kind::SETTLEMENT => true,
         Kind::CASH => true,
         _ => true,
     }
 }
 
-fn own_at(book: &[u8], keys: &[u16; Slots::ALL], steady: &[u16; Slots::ALL], i: usize) -> bool
-    requires { ⌜ Indexed keyBucket (now book) (now keys) 0 ⌝ }
-    requires { ⌜ Indexed steadyBucket (now book) (now steady) 0 ⌝ }
-    requires { ⌜ i < length (now book) / 64 ⌝ }
-    requires { ⌜ (rowAt (now book) i .kind ≡ kindSummary → s1 (rows (now book)) ≡ true) ⌝ }
+// S1 and the own rule of a trade. Its symbol is that of a security, so that it is spelled right.
+fn trade_right(book: &[u8], dir: &[u16], i: usize) -> bool
+    requires { ⌜ Listed (now book) (now dir) ⌝ }
+    requires { ⌜ (i < length (now book) / 64) × (rowAt (now book) i .kind ≡ kindTrade) ⌝ }
+    requires { ⌜ KindFits (now book) kindSecurity ⌝ }
+    ensures { λ r.
+        let b = now (book .entry) in
+        ⌜ r ≡ (fits (rowAt b i) && ownWell (rows b) (rowAt b i)) ⌝ }
+{
+    let n = book.len() / Grid::SIZE;
+    let t = Trade::from_bytes(part(book, i));
+    let symbol = t.symbol;
+    if n <= security(book, dir, symbol) {
+        return false;
+    }
+    fits_beside(part(book, i), symbol) & (account(book, dir, t.account) < n)
+}
+
+// S1 and the own rule of a row. That the summaries fit is known before their rule is asked for.
+fn told(book: &[u8], dir: &[u16], kind: u8, i: usize) -> bool
+    requires { ⌜ Listed (now book) (now dir) ⌝ }
+    requires { ⌜ (i < length (now book) / 64) × (rowAt (now book) i .kind ≡ kind) ⌝ }
+    requires { ⌜ (kind ≡ kindSummary → s1 (rows (now book)) ≡ true) ⌝ }
+    requires { ⌜ (kind ≡ kindTrade → KindFits (now book) kindSecurity) ⌝ }
+    ensures { λ r.
+        let b = now (book .entry) in
+        ⌜ r ≡ (fits (rowAt b i) && ownWell (rows b) (rowAt b i)) ⌝ }
+{
+    if kind == Kind::TRADE {
+        return trade_right(book, dir, i);
+    }
+    if kind == Kind::SUMMARY {
+        return kept(book, dir, i);
+    }
+    fit_at(book, i) & right(book, dir, kind, i)
+}
+
+fn own_at(book: &[u8], dir: &[u16], kind: u8, i: usize) -> bool
+    requires { ⌜ Listed (now book) (now dir) ⌝ }
+    requires { ⌜ (i < length (now book) / 64) × (rowAt (now book) i .kind ≡ kind) × (among kind hungKinds ≡ false) ⌝ }
+    requires { ⌜ (kind ≡ kindSummary → s1 (rows (now book)) ≡ true) ⌝ }
+    requires { ⌜ (kind ≡ kindTrade → KindFits (now book) kindSecurity) ⌝ }
     ensures { λ r.
         let b = now (book .entry) in
         ⌜ r ≡ (fits (rowAt b i) && lastAt b i && ownWell (rows b) (rowAt b i)) ⌝ }
 {
-    let row = row_at(book, i);
-    row_fits(row) & last(book, keys, i, row) & right(book, keys, steady, row)
+    last(book, dir, i) & told(book, dir, kind, i)
 }
 
 // S1, S2 and its own rule, for every row of a kind.
-pub fn own(
-    book: &[u8],
-    keys: &[u16; Slots::ALL],
-    steady: &[u16; Slots::ALL],
-    kinds: &[u16; Links::ALL],
-    kind: u8,
-) -> bool
-    requires { ⌜ Indexed keyBucket (now book) (now keys) 0 ⌝ }
-    requires { ⌜ Indexed steadyBucket (now book) (now steady) 0 ⌝ }
-    requires { ⌜ ByKind (now book) (now kinds) 0 ⌝ }
+pub fn own(book: &[u8], dir: &[u16], links: &[u16], kind: u8) -> bool
+    requires { ⌜ Listed (now book) (now dir) ⌝ }
+    requires { ⌜ ByKind (now book) (now links) 0 ⌝ }
     requires { ⌜ (kind ≤ 16) × (among kind hungKinds ≡ false) ⌝ }
     requires { ⌜ (kind ≡ kindSummary → s1 (rows (now book)) ≡ true) ⌝ }
+    requires { ⌜ (kind ≡ kindTrade → KindFits (now book) kindSecurity) ⌝ }
     ensures { λ r. ⌜ Says r (KindWell (now (book .entry)) kind) (sound (rows (now (book .entry)))) ⌝ }
 {
     let n = book.len() / Grid::SIZE;
-    let mut c = wide(kinds[index(kind)]);
+    let mut c = first(links, kind);
     while c < n {
-        if own_at(book, keys, steady, c) {
-            c = wide(kinds[Links::HEADS + c]);
+        if own_at(book, dir, kind, c) {
+            c = next(links, c);
         } else {
             return false;
         }
@@ -130,20 +178,14 @@ pub fn own(
 }
 
 // The same for the kinds up to the trades.
-pub fn standing(
-    book: &[u8],
-    keys: &[u16; Slots::ALL],
-    steady: &[u16; Slots::ALL],
-    kinds: &[u16; Links::ALL],
-) -> bool
-    requires { ⌜ Indexed keyBucket (now book) (now keys) 0 ⌝ }
-    requires { ⌜ Indexed steadyBucket (now book) (now steady) 0 ⌝ }
-    requires { ⌜ ByKind (now book) (now kinds) 0 ⌝ }
+pub fn standing(book: &[u8], dir: &[u16], links: &[u16]) -> bool
+    requires { ⌜ Listed (now book) (now dir) ⌝ }
+    requires { ⌜ ByKind (now book) (now links) 0 ⌝ }
     ensures { λ r. ⌜ Says r (WellTo (now (book .entry)) 10) (sound (rows (now (book .entry)))) ⌝ }
 {
     let mut k = 0;
     while k < Kind::REQUEST {
-        if own(book, keys, steady, kinds, k) {
+        if own(book, dir, links, k) {
             k += 1;
         } else {
             return false;
@@ -153,16 +195,16 @@ pub fn standing(
 }
 
 // S1 of every row of a kind.
-pub fn fit(book: &[u8], kinds: &[u16; Links::ALL], kind: u8) -> bool
-    requires { ⌜ ByKind (now book) (now kinds) 0 ⌝ }
+pub fn fit(book: &[u8], links: &[u16], kind: u8) -> bool
+    requires { ⌜ ByKind (now book) (now links) 0 ⌝ }
     requires { ⌜ kind ≤ 16 ⌝ }
     ensures { λ r. ⌜ Says r (KindFits (now (book .entry)) kind) (sound (rows (now (book .entry)))) ⌝ }
 {
     let n = book.len() / Grid::SIZE;
-    let mut c = wide(kinds[index(kind)]);
+    let mut c = first(links, kind);
     while c < n {
-        if row_fits(row_at(book, c)) {
-            c = wide(kinds[Links::HEADS + c]);
+        if fit_at(book, c) {
+            c = next(links, c);
         } else {
             return false;
         }

@@ -1,37 +1,58 @@
 // What a row asks of its trade: a request (S6), a settlement and a cash row (S9), and a lot history (S10).
 ghost use mathlib.Core.Path.{_≡_};
 ghost use mathlib.Core.Bool.{_&&_};
+ghost use Prim.Native.Nat.{_/_, _<_};
 ghost use lib.Dec.{eqb};
+ghost use lib.ListN.{length};
 ghost use Rattle.laws.specs.Search.{bit};
 ghost use Rattle.record.specs.Codes.{completed, pending};
 ghost use Rattle.model.specs.Flags.{cash};
-ghost use Rattle.model.specs.Rows.{rows};
+ghost use Rattle.model.specs.Names.{aTrade, anAccount};
+ghost use Rattle.model.specs.Rows.{found, rows};
 ghost use Rattle.model.specs.Sound.{cashRight, tradesDone};
-ghost use Rattle.tables.specs.Bucket.{keyBucket};
-ghost use Rattle.tables.specs.Table.{Indexed};
+ghost use Rattle.shelf.specs.Rows.{rowAt};
+ghost use Rattle.directory.specs.Listed.{Listed};
 ghost use Rattle.sound.specs.Rules.{agreesWith, asAsked};
-use record::codes::Kind;
+use directory::typed;
+use kinds::rows::LotHistory;
+use kinds::units::AccountNo;
+use kinds::units::BrokerNo;
+use kinds::units::TradeNo;
 use record::codes::TradeStatus;
 use record::row::Row;
-use tables::table::Slots;
-use tables::table::id_row;
-use tables::table::party_row;
+use shelf::place::part;
+use shelf::place::row_at;
 
-fn agrees(broker: u32, t: Row, r: Row) -> bool
-    ensures { λ b. ⌜ b ≡ agreesWith broker t r ⌝ }
+// The broker of an account, 0 where there is no such account.
+fn broker_of(book: &[u8], dir: &[u16], no: AccountNo) -> BrokerNo
+    requires { ⌜ Listed (now book) (now dir) ⌝ }
+    ensures { λ r. ⌜ r .0 ≡ found (anAccount (no .0)) (rows (now (book .entry))) .n1 ⌝ }
+{
+    BrokerNo(row_at(book, typed::account(book, dir, no)).n1)
+}
+
+// The status of a trade, 0 where there is no such trade.
+fn status_of(book: &[u8], dir: &[u16], no: TradeNo) -> u8
+    requires { ⌜ Listed (now book) (now dir) ⌝ }
+    ensures { λ r. ⌜ r ≡ found (aTrade (no .0)) (rows (now (book .entry))) .status ⌝ }
+{
+    row_at(book, typed::trade(book, dir, no)).status
+}
+
+fn agrees(broker: BrokerNo, t: Row, r: Row) -> bool
+    ensures { λ b. ⌜ b ≡ agreesWith (broker .0) t r ⌝ }
 {
     let symbol = t.symbol;
     let own = r.symbol;
-    (r.form == t.form) & own.same(symbol) & (r.n1 == t.n1) & (r.n2 == t.n2) & (r.party == broker)
+    (r.form == t.form) & own.same(symbol) & (r.n1 == t.n1) & (r.n2 == t.n2) & (r.party == broker.0)
 }
 
 // A request is of a pending trade and agrees with it.
-pub fn asked(book: &[u8], keys: &[u16; Slots::ALL], t: Row, r: Row) -> bool
-    requires { ⌜ Indexed keyBucket (now book) (now keys) 0 ⌝ }
+pub fn asked(book: &[u8], dir: &[u16], t: Row, r: Row) -> bool
+    requires { ⌜ Listed (now book) (now dir) ⌝ }
     ensures { λ b. ⌜ b ≡ (eqb (t .status) pending && asAsked (rows (now (book .entry))) t r) ⌝ }
 {
-    let a = party_row(book, keys, Kind::ACCOUNT, t.party);
-    (t.status == TradeStatus::PENDING) & agrees(a.n1, t, r)
+    (t.status == TradeStatus::PENDING) & agrees(broker_of(book, dir, AccountNo(t.party)), t, r)
 }
 
 pub fn one(b: bool) -> u8
@@ -47,19 +68,20 @@ pub fn settles(t: Row, s: Row) -> bool
     (t.status == TradeStatus::COMPLETED) & (s.flags == t.flags % 2)
 }
 
-pub fn due(book: &[u8], keys: &[u16; Slots::ALL], c: Row) -> bool
-    requires { ⌜ Indexed keyBucket (now book) (now keys) 0 ⌝ }
+pub fn due(book: &[u8], dir: &[u16], c: Row) -> bool
+    requires { ⌜ Listed (now book) (now dir) ⌝ }
     ensures { λ b. ⌜ b ≡ cashRight (rows (now (book .entry))) c ⌝ }
 {
-    let s = id_row(book, keys, Kind::SETTLEMENT, c.id);
+    let s = row_at(book, typed::settlement(book, dir, TradeNo(c.id)));
     (s.flags == 1) & (s.m1 == c.m1)
 }
 
-pub fn done(book: &[u8], keys: &[u16; Slots::ALL], r: Row) -> bool
-    requires { ⌜ Indexed keyBucket (now book) (now keys) 0 ⌝ }
-    ensures { λ b. ⌜ b ≡ tradesDone (rows (now (book .entry))) r ⌝ }
+// The trades that the lot history at a place names are completed.
+pub fn done(book: &[u8], dir: &[u16], i: usize) -> bool
+    requires { ⌜ Listed (now book) (now dir) × (i < length (now book) / 64) ⌝ }
+    ensures { λ b. ⌜ b ≡ tradesDone (rows (now (book .entry))) (rowAt (now (book .entry)) i) ⌝ }
 {
-    let a = id_row(book, keys, Kind::TRADE, r.id);
-    let b = id_row(book, keys, Kind::TRADE, r.m2);
-    (a.status == TradeStatus::COMPLETED) & (b.status == TradeStatus::COMPLETED)
+    let h = LotHistory::from_bytes(part(book, i));
+    (status_of(book, dir, h.lot) == TradeStatus::COMPLETED)
+        & (status_of(book, dir, h.by) == TradeStatus::COMPLETED)
 }

@@ -6,124 +6,174 @@ ghost use Rattle.record.specs.Codes.{kindSummary};
 ghost use Rattle.model.specs.Rows.{mostRecords, rows, wholeRecords};
 ghost use Rattle.model.specs.Sound.{sound};
 ghost use Rattle.model.specs.Tally.{bookStatus};
-ghost use Rattle.tables.specs.Bucket.{keyBucket, steadyBucket};
-ghost use Rattle.tables.specs.Table.{Indexed};
-ghost use Rattle.sound.specs.Chains.{ByKind};
+ghost use Rattle.directory.specs.Listed.{Listed};
+ghost use Rattle.sound.specs.Chains.{ByKind, NoChains};
 ghost use Rattle.sound.specs.Kinds.{WellBut, WellTo};
 ghost use Rattle.sound.specs.Says.{Says};
 ghost use Rattle.sound.specs.Slots.{MarkedTo, allPast};
-use crate::chain::Links;
+use crate::area::Large;
+use crate::area::Middle;
+use crate::area::Small;
 use crate::chain::chain;
-use crate::hang::Marks;
 use crate::hang::hang;
 use crate::hang::hung;
 use crate::own::fit;
 use crate::own::own;
 use crate::own::standing;
+use chains::chain::narrow;
+use directory::build::build;
 use model::Status;
 use record::codes::Kind;
 use record::row::Grid;
-use tables::table::Slots;
-use tables::table::build;
-use tables::table::narrow;
-
-// The most records of a book, and of an input.
-pub struct Most {}
-
-impl Most {
-    pub const RECORDS: usize = 4_096;
-
-    pub const INPUTS: usize = 20;
-}
 
 // The kinds that hang on a trade, and between them the lot histories.
-fn hanging(
-    book: &[u8],
-    keys: &[u16; Slots::ALL],
-    steady: &[u16; Slots::ALL],
-    kinds: &[u16; Links::ALL],
-    marks: &mut [u8; Marks::ALL],
-) -> bool
-    requires { ⌜ Indexed keyBucket (now book) (now keys) 0 ⌝ }
-    requires { ⌜ Indexed steadyBucket (now book) (now steady) 0 ⌝ }
-    requires { ⌜ ByKind (now book) (now kinds) 0 ⌝ }
+fn hanging(book: &[u8], dir: &[u16], links: &[u16], marks: &mut [u8]) -> bool
+    requires { ⌜ Listed (now book) (now dir) ⌝ }
+    requires { ⌜ ByKind (now book) (now links) 0 ⌝ }
     requires { ⌜ WellTo (now book) 10 ⌝ }
     requires { ⌜ MarkedTo (now book) (10 * 4096) (now marks) ⌝ }
     ensures { λ r.
         let b = now (book .entry) in
         ⌜ Says r (WellBut b kindSummary × MarkedTo b allPast (now (marks .exit))) (sound (rows b)) ⌝ }
 {
-    if !hang(book, keys, kinds, marks, Kind::REQUEST) {
+    if !hang(book, dir, links, marks, Kind::REQUEST) {
         return false;
     }
-    if !hang(book, keys, kinds, marks, Kind::TRADE_HISTORY) {
+    if !hang(book, dir, links, marks, Kind::TRADE_HISTORY) {
         return false;
     }
-    if !hang(book, keys, kinds, marks, Kind::LOT) {
+    if !hang(book, dir, links, marks, Kind::LOT) {
         return false;
     }
-    if !own(book, keys, steady, kinds, Kind::LOT_HISTORY) {
+    if !own(book, dir, links, Kind::LOT_HISTORY) {
         return false;
     }
-    if !hang(book, keys, kinds, marks, Kind::SETTLEMENT) {
+    if !hang(book, dir, links, marks, Kind::SETTLEMENT) {
         return false;
     }
-    hang(book, keys, kinds, marks, Kind::CASH)
+    hang(book, dir, links, marks, Kind::CASH)
 }
 
 // The summaries, whose sums go by S1 of all rows, and then each trade by its marks.
-fn closing(
-    book: &[u8],
-    keys: &[u16; Slots::ALL],
-    steady: &[u16; Slots::ALL],
-    kinds: &[u16; Links::ALL],
-    marks: &[u8; Marks::ALL],
-) -> bool
-    requires { ⌜ Indexed keyBucket (now book) (now keys) 0 ⌝ }
-    requires { ⌜ Indexed steadyBucket (now book) (now steady) 0 ⌝ }
-    requires { ⌜ ByKind (now book) (now kinds) 0 ⌝ }
+fn closing(book: &[u8], dir: &[u16], links: &[u16], marks: &[u8]) -> bool
+    requires { ⌜ Listed (now book) (now dir) ⌝ }
+    requires { ⌜ ByKind (now book) (now links) 0 ⌝ }
     requires { ⌜ WellBut (now book) kindSummary × MarkedTo (now book) allPast (now marks) ⌝ }
     ensures { λ r. ⌜ r ≡ sound (rows (now (book .entry))) ⌝ }
 {
-    if !fit(book, kinds, Kind::SUMMARY) {
+    if !fit(book, links, Kind::SUMMARY) {
         return false;
     }
-    if !own(book, keys, steady, kinds, Kind::SUMMARY) {
+    if !own(book, dir, links, Kind::SUMMARY) {
         return false;
     }
-    hung(book, kinds, marks)
+    hung(book, links, marks)
 }
 
-// The book is sound, by its tables.
-pub fn sound_by(book: &[u8], keys: &[u16; Slots::ALL], steady: &[u16; Slots::ALL]) -> bool
-    requires { ⌜ Indexed keyBucket (now book) (now keys) 0 ⌝ }
-    requires { ⌜ Indexed steadyBucket (now book) (now steady) 0 ⌝ }
+// The book is sound, by its directory and in areas that are lent.
+fn judged(book: &[u8], dir: &[u16], links: &mut [u16], marks: &mut [u8]) -> bool
+    requires { ⌜ Listed (now book) (now dir) ⌝ }
+    requires { ⌜ NoChains (now book) (now links) ⌝ }
+    requires { ⌜ MarkedTo (now book) (10 * 4096) (now marks) ⌝ }
+    ensures { λ r. ⌜ r ≡ sound (rows (now (book .entry))) ⌝ }
+{
+    if !chain(book, links) {
+        return false;
+    }
+    if !standing(book, dir, links) {
+        return false;
+    }
+    if !hanging(book, dir, links, marks) {
+        return false;
+    }
+    closing(book, dir, links, marks)
+}
+
+fn small(book: &[u8], dir: &[u16]) -> bool
+    requires { ⌜ Listed (now book) (now dir) × (length (now book) / 64 ≤ 127) ⌝ }
     ensures { λ r. ⌜ r ≡ sound (rows (now (book .entry))) ⌝ }
 {
     let none = narrow(book.len() / Grid::SIZE);
-    let mut kinds = [none; Links::ALL];
-    if !chain(book, &mut kinds) {
-        return false;
+    let mut links = [none; Small::LINKS];
+    let mut marks = [0; Small::MARKS];
+    judged(book, dir, &mut links, &mut marks)
+}
+
+fn middle(book: &[u8], dir: &[u16]) -> bool
+    requires { ⌜ Listed (now book) (now dir) × (length (now book) / 64 ≤ 1023) ⌝ }
+    ensures { λ r. ⌜ r ≡ sound (rows (now (book .entry))) ⌝ }
+{
+    let none = narrow(book.len() / Grid::SIZE);
+    let mut links = [none; Middle::LINKS];
+    let mut marks = [0; Middle::MARKS];
+    judged(book, dir, &mut links, &mut marks)
+}
+
+fn large(book: &[u8], dir: &[u16]) -> bool
+    requires { ⌜ Listed (now book) (now dir) ⌝ }
+    ensures { λ r. ⌜ r ≡ sound (rows (now (book .entry))) ⌝ }
+{
+    let none = narrow(book.len() / Grid::SIZE);
+    let mut links = [none; Large::LINKS];
+    let mut marks = [0; Large::MARKS];
+    judged(book, dir, &mut links, &mut marks)
+}
+
+// The book is sound, by its directory.
+pub fn sound_by(book: &[u8], dir: &[u16]) -> bool
+    requires { ⌜ Listed (now book) (now dir) ⌝ }
+    ensures { λ r. ⌜ r ≡ sound (rows (now (book .entry))) ⌝ }
+{
+    let n = book.len() / Grid::SIZE;
+    if n <= Small::RECORDS {
+        return small(book, dir);
     }
-    if !standing(book, keys, steady, &kinds) {
-        return false;
+    if n <= Middle::RECORDS {
+        return middle(book, dir);
     }
-    let mut marks = [0; Marks::ALL];
-    if !hanging(book, keys, steady, &kinds, &mut marks) {
-        return false;
-    }
-    closing(book, keys, steady, &kinds, &marks)
+    large(book, dir)
+}
+
+// The same for a book whose directory is not made yet.
+fn small_book(book: &[u8]) -> bool
+    requires { ⌜ length (now book) / 64 ≤ 127 ⌝ }
+    ensures { λ r. ⌜ r ≡ sound (rows (now (book .entry))) ⌝ }
+{
+    let mut dir = [narrow(book.len() / Grid::SIZE); Small::CELLS];
+    build(book, &mut dir);
+    small(book, &dir)
+}
+
+fn middle_book(book: &[u8]) -> bool
+    requires { ⌜ length (now book) / 64 ≤ 1023 ⌝ }
+    ensures { λ r. ⌜ r ≡ sound (rows (now (book .entry))) ⌝ }
+{
+    let mut dir = [narrow(book.len() / Grid::SIZE); Middle::CELLS];
+    build(book, &mut dir);
+    middle(book, &dir)
+}
+
+fn large_book(book: &[u8]) -> bool
+    requires { ⌜ length (now book) / 64 ≤ mostRecords ⌝ }
+    ensures { λ r. ⌜ r ≡ sound (rows (now (book .entry))) ⌝ }
+{
+    let mut dir = [narrow(book.len() / Grid::SIZE); Large::CELLS];
+    build(book, &mut dir);
+    large(book, &dir)
 }
 
 fn sound(book: &[u8]) -> bool
     requires { ⌜ length (now book) / 64 ≤ mostRecords ⌝ }
     ensures { λ r. ⌜ r ≡ sound (rows (now (book .entry))) ⌝ }
 {
-    let none = narrow(book.len() / Grid::SIZE);
-    let mut keys = [none; Slots::ALL];
-    let mut steady = [none; Slots::ALL];
-    build(book, &mut keys, &mut steady);
-    sound_by(book, &keys, &steady)
+    let n = book.len() / Grid::SIZE;
+    if n <= Small::RECORDS {
+        return small_book(book);
+    }
+    if n <= Middle::RECORDS {
+        return middle_book(book);
+    }
+    large_book(book)
 }
 
 pub fn whole(n: usize, most: usize) -> bool

@@ -1,104 +1,88 @@
--- What a result reads and its figures, as the code has them: the view of the rules and its values. Assumes nothing.
+-- The figures of a result, as the code has them; and that they are those of the rules, in a sound book in their ranges.
+-- Assumes nothing.
 use mathlib.Core.Path.{_≡_}
-use mathlib.Core.Bool.{Bool, true, cond}
+use mathlib.Core.Bool.{true, cond}
 use mathlib.Core.List.{List}
 use Prim.Native.Nat.{_*_, _≤_}
+use native.Mathlib.Omega.{arith}
 use lib.IntN.{_+ℤ_, natAbs, pos}
-use mir.Syntax.{w64}
-use mir.Val.{toZ}
+use lib.ListN.{length}
 use Rattle.record.specs.Signed.{up}
 use Rattle.record.specs.declared.row.Row.{Row}
+use Rattle.kinds.specs.Inputs.{resultInputOf}
+use Rattle.kinds.specs.Kinds.{accountOf, summaryOf, tradeOf}
 use Rattle.kinds.specs.Units.{cents, shares}
-use Rattle.kinds.specs.declared.units.Cents.{Cents}
-use Rattle.kinds.specs.declared.units.Shares.{Shares}
-use Rattle.rules.specs.Ranges.{charged, commissionPart, moneyMost, sharesMost, taxPart}
+use Rattle.kinds.specs.declared.inputs.ResultInput.{ResultInput}
+use Rattle.rules.specs.Ranges.{charged, commissionPart, moneyMost, priceMost, sharesMost, taxPart}
+use Rattle.rules.specs.Rules.{resultInput}
 use Rattle.model.specs.Flags.{cash}
-use Rattle.model.specs.Lots.{walk}
-use Rattle.model.specs.Money.{commissionOf, settlementOf, taxOf, untaxed}
-use Rattle.model.specs.Result.{View, figures, view}
-use Rattle.model.specs.Result
-use Rattle.model.specs.Sound.{sound}
+use Rattle.model.specs.Lots.{closings}
+use Rattle.model.specs.Lots
+use Rattle.model.specs.Money.{buys, commissionOf, settlementOf, taxOf, untaxed}
+use Rattle.model.specs.Result.{signed, view}
 use Rattle.model.specs.Rows.{mostRecords}
-use Rattle.facts.specs.Most.{balance-near, charge-near, rate-near, rates-near, shares-near, summary-near}
-use Rattle.lots.specs.Lots.{lotsOf}
-use Rattle.lots.specs.Terms.{perTenThousand}
-use Rattle.lots.specs.Walk.{made}
-use Rattle.lots.specs.declared.walk.Walk.{Walk}
+use Rattle.model.specs.Sound.{sound}
+use Rattle.facts.specs.Most.{balance-near, charge-near, price-fits, rate-near, rates-near, shares-near, summary-near}
+use Rattle.money.specs.Amounts.{UpTo, up-to, valueMost}
+use Rattle.walk.specs.Walk.{Within, made}
+use Rattle.walk.specs.declared.Walk.{Walk}
 use Rattle.verdict.specs.declared.figures.Figures.{Figures}
-use Rattle.verdict.specs.declared.figures.Terms.{Terms}
-use Rattle.verdict.specs.NoLots.{summaryOf}
-use lib.ListN.{length}
+use Rattle.verdict.specs.declared.terms.Terms.{Terms}
+use Rattle.verdict.specs.Terms.{termsOf}
 
--- of the view
-abbrev termsSeen : View → Terms
-termsSeen v = record {
-  trade = v .trade;
-  account = v .account;
-  summary = v .summary;
-  rates = v .rates;
-  rate = perTenThousand (v .rate);
-}
+-- what is worked out, of what is read and the walk
+unfoldable pub figuresBy : ResultInput → Terms → Walk → Figures
+figuresBy i t w =
+    let n = up (t .trade .shares .0) in
+    let form = t .trade .«trade_type» in
+    let taxed = t .account .«tax_status» in
+    let tax = taxOf taxed (t .rates .0) (up (w .bought .0)) (up (w .sold .0)) in
+    let commission = commissionOf (t .rate .0) n (i .price .0) in
+    let s = settlementOf form taxed (n * i .price .0) (up (t .trade .charge .0)) commission tax in
+    let before = t .account .balance .0 in
+    record {
+      walk = w;
+      tax = cents (pos tax);
+      untaxed = untaxed taxed (t .rates .0) (up (w .bought .0)) (up (w .sold .0));
+      commission = cents (pos commission);
+      settlement = cents s;
+      balance = cents (cond (cash (t .trade .flags)) (before +ℤ s) before);
+      shares = shares (t .summary .shares .0 +ℤ signed form n);
+    }
 
-abbrev figuresMade : View → Result.Figures → Figures
-figuresMade v f = record {
-  walk = made (f .walked);
-  tax = cents (pos (f .tax));
-  untaxed = untaxed (v .account .form) (v .rates) (f .walked .bought) (f .walked .sold);
-  commission = cents (pos (f .commission));
-  settlement = cents (f .settlement);
-  balance = cents (f .balance);
-}
+-- in their ranges
+pub record Ranged (i : ResultInput) (t : Terms) (w : Walk) : Type 0 where
+  pub price : i .price .0 ≤ priceMost
+  pub count : UpTo sharesMost (t .trade .shares .0)
+  pub charge : UpTo (charged .high) (t .trade .charge .0)
+  pub rates : t .rates .0 ≤ taxPart .high
+  pub rate : t .rate .0 ≤ commissionPart .high
+  pub balance : natAbs (t .account .balance .0) ≤ moneyMost
+  pub holding : natAbs (t .summary .shares .0) ≤ moneyMost
+  pub sold : up (w .sold .0) ≤ valueMost
 
-abbrev figuresSeen : Row → View → Figures
-figuresSeen input v = figuresMade v (figures input v)
-
--- and of the book
-unfoldable pub termsOf : List Row → Row → Terms
-termsOf rs input = termsSeen (view rs input)
+-- ---- those of the rules
+-- the walk over the lots that are read
+unfoldable pub walkOf : List Row → Row → Walk
+walkOf rs input =
+    let v = view rs input in
+    let t = v .trade in
+    made (buys (t .form)) (record { 0 = input .n1 }) (Lots.walk (t .form) (input .n1) (t .n1) (v .lots))
+    (length (closings (t .n1) (v .lots)))
 
 unfoldable pub figuresOf : List Row → Row → Figures
-figuresOf rs input = figuresSeen input (view rs input)
+figuresOf rs input = figuresBy (resultInputOf input) (termsOf rs input) (walkOf rs input)
 
-module _ (rs : List Row) (input : Row) {t : Terms} (good : sound rs ≡ true) (h : t ≡ termsOf rs input) where
-  pub trade-shares : t .trade .n1 ≤ sharesMost
-  unfolding termsOf
-  trade-shares = rw h (shares-near rs input good)
-
-  pub summary-found : t .summary ≡ summaryOf rs (t .trade)
-  unfolding termsOf view
-  summary-found = rw h
-
-  pub charge-fits : t .trade .n4 ≤ charged .high
-  unfolding termsOf
-  charge-fits = rw h (charge-near rs input good)
-
-  pub balance-fits : natAbs (toZ w64 (t .account .m1)) ≤ moneyMost
-  unfolding termsOf
-  balance-fits = rw h (balance-near rs input good)
-
-  pub summary-fits : length rs ≤ mostRecords → natAbs (toZ w64 (t .summary .m1)) ≤ moneyMost
-  unfolding termsOf
-  summary-fits few = rw h (summary-near rs input good few)
-
-  pub rates-fit : t .rates ≤ taxPart .high
-  unfolding termsOf
-  rates-fit = rw h (rates-near rs input good)
-
-  pub rate-fits : t .rate .0 ≤ commissionPart .high
-  unfolding termsOf
-  rate-fits = rw h (rate-near rs input good)
-
--- ---- and the values are those of the rules
-module _ (rs : List Row) (input : Row) {t : Terms} (h : t ≡ termsOf rs input) where
-  pub figures-are : {w : Walk} {x k a b : Cents} {u : Bool} {s : Shares}
-      → w ≡ made (walk (t .trade .form) (input .n1) (t .trade .n1) (lotsOf rs (t .trade)))
-      → x ≡ cents (pos (taxOf (t .account .form) (t .rates) (up (w .bought .0)) (up (w .sold .0))))
-      → s ≡ shares (pos (t .trade .n1)) → k ≡ cents (pos (commissionOf (t .rate .0) (up (s .0)) (input .n1)))
-      → a ≡ cents (settlementOf (t .trade .form) (t .account .form) (t .trade .n1 * input .n1) (t .trade .n4)
-      (up (k .0)) (up (x .0)))
-      → u ≡ untaxed (t .account .form) (t .rates) (up (w .bought .0)) (up (w .sold .0))
-      → b ≡ cents (cond (cash (t .trade .flags)) (toZ w64 (t .account .m1) +ℤ a .0) (toZ w64 (t .account .m1)))
-      → _≡_ {A = Figures} (record { walk = w; tax = x; untaxed = u; commission = k; settlement = a; balance = b })
-      (figuresOf rs input)
-  unfolding termsOf figuresOf view figures
-  figures-are f g e i j l m = rw (m, l, j, i, e, g, f, h)
+pub ranged : (rs : List Row) (input : Row) {t : Terms} {w : Walk} → sound rs ≡ true → resultInput input ≡ true
+    → length rs ≤ mostRecords → t ≡ termsOf rs input → Within valueMost w → Ranged (resultInputOf input) t w
+unfolding termsOf resultInputOf tradeOf accountOf summaryOf
+ranged rs input {t} {w} good right few e h = rw e (record {
+  price = price-fits input right;
+  count = up-to sharesMost (view rs input .trade .n1) (shares-near rs input good);
+  charge = up-to (charged .high) (view rs input .trade .n4) (charge-near rs input good);
+  rates = rates-near rs input good;
+  rate = rate-near rs input good;
+  balance = balance-near rs input good;
+  holding = summary-near rs input good few;
+  sold = let s = h .sold-most in omega arith;
+})

@@ -1,4 +1,6 @@
-pub mod NoLots
+pub mod Terms
 pub mod Figures
-pub mod Signed
 pub mod Judge
+pub mod NoLots
+pub mod Lots
+pub mod Reckoned

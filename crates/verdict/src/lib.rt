@@ -1,4 +1,5 @@
 // What a result reads of a book, what it works out from that, and what it is refused for. Nothing is written here.
 pub mod figures;
 pub mod judge;
-pub mod signed;
+pub mod lots;
+pub mod terms;

@@ -10,6 +10,7 @@ mod area;
 mod library;
 mod runs;
 mod sentences;
+mod spread;
 
 use area::Area;
 use library::{Run, CALLS};
@@ -32,9 +33,11 @@ const CASES_PER_RUN: u64 = 5;
 const MOST_SAID: u64 = 10;
 /// BOOK_MOST_STACK of include/book.h.
 const STACK: usize = 256 * 1024;
-/// The kinds that stand for a sequence and a run, where a source of random numbers is for one kind of input records.
+/// The kinds that stand for a sequence, a run and the books of `spread`, where a source of random numbers is for one kind
+/// of input records.
 const SEQUENCE: u8 = 0;
 const RUN: u8 = 1;
+const SPREAD: u8 = 2;
 
 #[derive(Default)]
 struct Tally {
@@ -296,6 +299,7 @@ fn run_all(tally: &mut Tally, asked: &Asked) {
         if number == 1 {
             sentences::run(tally, "");
             run_on_small_stacks(tally, asked.seed);
+            spread::run(tally, asked.seed);
         }
         for (call, run) in CALLS {
             run_case(tally, asked.seed, *call, *run, number);

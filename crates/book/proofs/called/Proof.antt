@@ -1,13 +1,11 @@
--- The lengths, the shell's checks, the inner call and its end, which is the answer that the rules define. Assumes
--- nothing.
+-- The lengths, and then the shell with a directory of the book's size. Assumes nothing.
 use native.Mathlib.Omega.{arith}
 use borrow.Author.Needs.{needs}
 use Rattle.book.proofs.called.Statement.{statement}
 use Rattle.book.proofs.called.Tie as tie
 use Rattle.model.specs.declared.Status.the-variants.{BadLength}
 use Rattle.facts.specs.Status.{number-back}
-use Rattle.sound.specs.ByRow.{rule-kept, rule-lost}
-use Rattle.book.specs.Shell.{decides, empty, refuses, right-lengths, uncalled, wrong-lengths}
+use Rattle.book.specs.Shell.{right-lengths, room, uncalled, wrong-lengths}
 
 returns : tie.Need-returns
 returns c =
@@ -16,75 +14,31 @@ returns c =
     let wrong = wrong-lengths (args .answer .now) 64 (long .long .ensures) (c .before .if1 .taken) in
     uncalled _ _ _ _ wrong (number-back (c .code .result) BadLength (c .code .ensures))
 
-fields-requires : tie.Need-fields-requires
-fields-requires c κs =
-    let test = c .before .before .before in
-    let args = test .before .before .before .before .before .args in
-    right-lengths (args .answer .now) 64 (test .before .long .ensures) (test .if1 .left) .1
-
-opened-requires : tie.Need-opened-requires
-opened-requires c κs = empty _ _ (c .before .before .before .before .records .ensures)
-
-finish-requires : tie.Need-finish-requires
-finish-requires c κs =
-    let test = c .before .before .before .before .before .before .before .before .before .before in
-    let args = test .before .before .before .before .before .args in
-    let long = right-lengths (args .answer .now) 64 (test .before .long .ensures) (test .if1 .left) .2 in
-    omega arith
-
-returns-2 : tie.Need-returns-2
-returns-2 c =
-    let finish = c .before .before in
-    let test = finish .before .before in
-    let opened = test .before .before in
-    let fields = opened .before .before .before in
-    let sized = fields .before .before .before .before in
-    let args = sized .before .before .before .before .before .args in
-    let long = right-lengths (args .answer .now) 64 (sized .before .long .ensures) (sized .if1 .left) .0 in
-    let end = finish .finish in
-    refuses _ (args .book .now) (args .answer .now) long (fields .fields .ensures)
-    (opened .opened .ensures .0)
-    (rule-lost (test .before .done .ensures) (test .if2 .taken))
-    (number-back (end .result) (opened .opened .result) (end .ensures .0)) (end .ensures .1)
-
-decide-requires : tie.Need-decide-requires
-decide-requires c κs =
-    let test = c .before .before .before .before in
-    let opened = test .before .before in
-    let fields = opened .before .before .before in
-    let sized = fields .before .before .before .before in
+within-requires : tie.Need-within-requires
+within-requires c κs =
+    let records = c .before .before .before .before in
+    let sized = records .before .before in
     let args = sized .before .before .before .before .before .args in
     let long = right-lengths (args .answer .now) 64 (sized .before .long .ensures) (sized .if1 .left) in
-    let found = opened .opened .ensures .1 (rule-kept (test .before .done .ensures) (test .if2 .left)) in
-    (rw (fields .fields .ensures) at found, (long .1, long .2))
+    let few = c .before .before .before .if2 .taken in
+    (room _ 256 _ (records .records .ensures) (λ n. omega arith) (omega arith), (long .1, long .2))
 
-finish-requires-2 : tie.Need-finish-requires-2
-finish-requires-2 c κs =
-    let decide = c .before .before .before .before .before in
-    let fields = decide .before .before .before .before .before .before .before .before .before .before in
-    let sized = fields .before .before .before .before in
+within-requires-2 : tie.Need-within-requires-2
+within-requires-2 c κs =
+    let records = c .before .before .before .before .before in
+    let sized = records .before .before in
     let args = sized .before .before .before .before .before .args in
-    let long = right-lengths (args .answer .now) 64 (sized .before .long .ensures) (sized .if1 .left) .2 in
-    let same = decide .decide .kept .1 .1 .1 .1 .1 .0 in
-    omega arith
+    let long = right-lengths (args .answer .now) 64 (sized .before .long .ensures) (sized .if1 .left) in
+    let few = c .before .before .before .if3 .taken in
+    (room _ 2048 _ (records .records .ensures) (λ n. omega arith) (omega arith), (long .1, long .2))
 
-returns-3 : tie.Need-returns-3
-returns-3 c =
-    let finish = c .before .before in
-    let decide = finish .before .before .before .before .before .before in
-    let test = decide .before .before .before .before .before in
-    let opened = test .before .before in
-    let fields = opened .before .before .before in
-    let sized = fields .before .before .before .before in
+within-requires-3 : tie.Need-within-requires-3
+within-requires-3 c κs =
+    let records = c .before .before .before .before .before in
+    let sized = records .before .before in
     let args = sized .before .before .before .before .before .args in
-    let long = right-lengths (args .answer .now) 64 (sized .before .long .ensures) (sized .if1 .left) .0 in
-    let on = decide .decide in
-    let end = finish .finish2 in
-    decides _ (args .book .now) (args .answer .now) long (fields .fields .ensures)
-    (opened .opened .ensures .0)
-    (rule-kept (test .before .done .ensures) (test .if2 .left))
-    (on .ensures .0) (on .ensures .1 .0) (on .ensures .1 .1) (on .kept .1 .1 .1 .1 .1 .0)
-    (number-back (end .result) (on .result) (end .ensures .0)) (end .ensures .1)
+    let long = right-lengths (args .answer .now) 64 (sized .before .long .ensures) (sized .if1 .left) in
+    (room _ 16384 _ (records .records .ensures) (λ n. omega arith) (omega arith), (long .1, long .2))
 
 pub called-spec : {M : Type 1} → statement M
 called-spec =
@@ -94,15 +48,18 @@ called-spec =
     (λ c κs. search needs)
     returns
     (λ c κs. search needs)
-    fields-requires
-    opened-requires
-    (λ c κs. search needs)
-    finish-requires
+    (λ c. search needs)
+    within-requires
     (λ c. search needs)
     (λ c. search needs)
-    returns-2
-    decide-requires
-    finish-requires-2
     (λ c. search needs)
     (λ c. search needs)
-    returns-3)
+    within-requires-2
+    (λ c. search needs)
+    (λ c. search needs)
+    (λ c. search needs)
+    (λ c. search needs)
+    within-requires-3
+    (λ c. search needs)
+    (λ c. search needs)
+    (λ c. search needs))

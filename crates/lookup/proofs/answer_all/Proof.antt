@@ -13,12 +13,12 @@ use Rattle.lookup.proofs.answer_all.Statement.{statement}
 use Rattle.lookup.proofs.answer_all.Tie as tie
 
 abbrev Inv-loop : tie.InvT-loop
-Inv-loop book keys input answer₀ n i₀ answer i =
+Inv-loop book dir input answer₀ n i₀ answer i =
     Filled (rows book) input (sets (rows answer₀) 0 (looked (rows book) (rows input))) answer i
     × (length answer ≡ length answer₀)
 
 abbrev μ-loop : tie.MeasureT-loop
-μ-loop book keys input answer₀ n i₀ answer i = n - i
+μ-loop book dir input answer₀ n i₀ answer i = n - i
 
 loop-holds : tie.Need-loop-holds Inv-loop μ-loop
 loop-holds c = (search (needs, fills), search needs)
@@ -27,7 +27,7 @@ answer-one-requires : tie.Need-answer-one-requires Inv-loop μ-loop
 answer-one-requires c κs =
     let inside = c .before .before .loop-test .taken in
     let long = c .before .before .before .loop .inv .1 in
-    let start = c .before .before .before .before .before .before .before in
+    let start = c .before .before .before .before .before .before .before .before in
     let area = start .pre .1 in
     (start .pre .0, omega arith)
 
@@ -42,7 +42,7 @@ same-length c = c .before .loop .inv .1
 returns : tie.Need-returns Inv-loop μ-loop
 returns c =
     fill-all (c .before .loop .inv .0) (search needs) ∙ whole _ _ _
-    (c .before .before .before .before .before .pre .1)
+    (c .before .before .before .before .before .before .pre .1)
 
 pub answer-all-spec : {M : Type 1} → statement M
 answer-all-spec =
@@ -51,7 +51,7 @@ answer-all-spec =
     Inv-loop
     μ-loop
     loop-holds
-    (λ c κs. search (needs, fills))
+    (λ c κs. search needs)
     answer-one-requires
     (λ c. search (needs, fills))
     (λ c. search (needs, fills))

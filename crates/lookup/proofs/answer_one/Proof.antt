@@ -1,6 +1,7 @@
 -- The two rows are put one after the other; each put keeps the length. Assumes nothing.
 use mathlib.Core.Path.{_∙_, ap}
 use lib.ListN.{length}
+use Rattle.directory.specs.Found.{key-row}
 use Rattle.shelf.specs.Rows.{length-putAt}
 use borrow.Author.Needs.{needs}
 use Rattle.lookup.proofs.answer_one.Statement.{statement}
@@ -9,9 +10,11 @@ use Rattle.lookup.proofs.answer_one.Tie as tie
 returns : tie.Need-returns
 returns c =
     let two = c .before .before in
-    let one = c .before .before .before .before .before .before .before in (
+    let one = two .before .before .before .before .before .before in
+    let second = key-row _ _ (two .before .before .settlement .ensures) (two .before .row-at2 .ensures) in
+    let first = key-row _ _ (one .before .before .trade .ensures) (one .before .row-at .ensures) in (
       ap length (two .put2 .ensures .0) ∙ length-putAt _ _ _ ∙ ap length (one .put .ensures .0) ∙ length-putAt _ _ _,
-      two .put2 .ensures .1 ∙ rw (one .put .ensures .1, two .before .id-row2 .ensures, one .before .id-row .ensures),
+      two .put2 .ensures .1 ∙ rw (one .put .ensures .1, second, first),
     )
 
 pub answer-one-spec : {M : Type 1} → statement M
@@ -21,7 +24,9 @@ answer-one-spec =
     (λ c. search needs)
     (λ c κs. search needs)
     (λ c κs. search needs)
+    (λ c κs. search needs)
     (λ c. search needs)
+    (λ c κs. search needs)
     (λ c κs. search needs)
     (λ c κs. search needs)
     (λ c. search needs)

@@ -8,7 +8,7 @@ use Rattle.lookup.proofs.lookup.Tie as tie
 
 answer-all-requires : tie.Need-answer-all-requires
 answer-all-requires c κs =
-    let pre = c .before .before .before .before .before .before .before .pre in
+    let pre = c .before .before .before .before .before .before .before .before .pre in
     (pre .0, twice _ _ (pre .1 .0) (pre .1 .1) .0)
 
 returns : tie.Need-returns
@@ -16,7 +16,7 @@ returns c =
     let answered = c .before .before in
     let test = answered .before .before in
     let judge = test .before .before in
-    let start = judge .before .before .before .before in
+    let start = judge .before .before .before .before .before in
     let pre = start .pre in
     let a = answered .answer-all .last .1 .1 .1 .0 in
     let long : length a ≡ length (start .args .answer .now) = search needs in

@@ -10,11 +10,11 @@ use Rattle.feed.proofs.judge.all_known.Statement.{statement}
 use Rattle.feed.proofs.judge.all_known.Tie as tie
 
 abbrev Inv-loop : tie.InvT-loop
-Inv-loop book steady input n i₀ i =
+Inv-loop book dir input n i₀ i =
     Checked (λ e. there (aSecurity (e .symbol)) (rows book)) input (allKnown (rows book) (rows input)) i
 
 abbrev μ-loop : tie.MeasureT-loop
-μ-loop book steady input n i₀ i = n - i
+μ-loop book dir input n i₀ i = n - i
 
 pub all-known-spec : {M : Type 1} → statement M
 all-known-spec =
@@ -23,7 +23,6 @@ all-known-spec =
     Inv-loop
     μ-loop
     (λ c. search (needs, loops))
-    (λ c κs. search (needs, loops))
     (λ c κs. search (needs, loops))
     (λ c. search (needs, loops))
     (λ c. search (needs, loops))

@@ -2,7 +2,6 @@
 -- machine's range. The measure is the number of entries left. Assumes nothing.
 use Prim.Native.Nat.{_-_}
 use mathlib.Core.Bool.{cond}
-use lib.Dec.{eqb}
 use borrow.Author.Needs.{needs}
 use Rattle.feed.proofs.judge.shares_for.Statement.{statement}
 use Rattle.feed.proofs.judge.shares_for.Tie as tie
@@ -20,7 +19,7 @@ abbrev μ-loop : tie.MeasureT-loop
 μ-loop input symbol n sum₀ i₀ sum i = n - i
 
 add-sum : tie.Need-add-sum Inv-loop μ-loop
-add-sum c = let few = few-inputs _ (c .before .before .before .before .before .pre) in search needs
+add-sum c = let few = few-inputs _ (c .before .before .before .before .pre) in search needs
 
 pub shares-for-spec : {M : Type 1} → statement M
 unfolding sharesFor
@@ -30,7 +29,6 @@ shares-for-spec =
     Inv-loop
     μ-loop
     (λ c. search (needs, loops))
-    (λ c κs. search (needs, loops))
     (λ c κs. search (needs, loops))
     add-sum
     (λ c. search (needs, loops))

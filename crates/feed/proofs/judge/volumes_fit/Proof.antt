@@ -24,7 +24,6 @@ volumes-fit-spec =
     μ-loop
     (λ c. search (needs, loops))
     (λ c κs. search (needs, loops))
-    (λ c κs. search (needs, loops))
     (λ c. search (needs, loops))
     (λ c. search (needs, loops))
     (λ c. search (needs, loops))

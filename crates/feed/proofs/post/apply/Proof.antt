@@ -1,40 +1,58 @@
 -- The three steps of an entry, each as the rules have it. Assumes nothing.
-use Rattle.feed.specs.Apply.{applied-is, gathered-there}
+use Rattle.feed.specs.Apply.{entry-applied, entry-asking, entry-known, entry-room, entry-volume}
 use borrow.Author.Needs.{needs}
 use Rattle.feed.proofs.post.apply.Statement.{statement}
 use Rattle.feed.proofs.post.apply.Tie as tie
 
-gather-requires : tie.Need-gather-requires
-gather-requires c κs =
+quote-requires : tie.Need-quote-requires
+quote-requires c κs =
+    let entry = c .before .before in
+    let pre = entry .before .before .before .before .pre in
+    let e = entry .entry-at .ensures in
+    (pre .ready, (entry-known pre e, entry-volume pre e))
+
+submits-requires : tie.Need-submits-requires
+submits-requires c κs =
     let quote = c .before .before .before .before .before in
-    let start = quote .before .before .before in
-    quote .quote .ensures .1 _ (start .pre .0) .indexed
+    let pre = quote .before .before .before .before .before .before .before .pre in
+    (quote .quote .ensures .1 .directory .listed, pre .inside)
 
 submit-all-requires : tie.Need-submit-all-requires
 submit-all-requires c κs =
-    let gather = c .before .before .before in
-    let quote = gather .before .before .before .before .before .before in
-    let start = quote .before .before .before in
-    let gathered = gather .gather in
-    let quoted = quote .quote in
-    (quoted .ensures .1 _ (start .pre .0), (gathered .ensures .0, rw (gathered .ensures .1) (gathered-there _ _)))
+    let submits = c .before .before .before .before in
+    let quote = submits .before .before .before .before .before .before in
+    let entry = quote .before .before .before in
+    let pre = entry .before .before .before .before .pre in
+    let e = entry .entry-at .ensures in
+    let q = quote .quote .ensures in
+    let g = submits .submits .ensures in
+    let few = g .few in
+    let most = q .1 .directory .listed .few in
+    ((q .1, entry-room pre e (q .0) g (search needs), search needs), entry-asking pre e (q .0) g)
 
 returns : tie.Need-returns
 returns c =
-    let submit-all = c .before .before in
-    let gather = submit-all .before .before .before .before in
-    let quote = gather .before .before .before .before .before .before in
-    let sent = submit-all .submit-all in
-    let gathered = gather .gather in
-    let quoted = quote .quote in
-    (applied-is _ _ _ _ _ _ (quoted .ensures .0) (gathered .ensures .1) (sent .ensures .0), sent .ensures .1)
+    let all = c .before .before .before .before in
+    let submits = all .before .before .before .before .before in
+    let quote = submits .before .before .before .before .before .before in
+    let entry = quote .before .before .before in
+    let pre = entry .before .before .before .before .pre in
+    let e = entry .entry-at .ensures in
+    let q = quote .quote .ensures in
+    let g = submits .submits .ensures in
+    let few = g .few in
+    let most = q .1 .directory .listed .few in
+    let sent = all .submit-all .ensures in
+    entry-applied pre e (q .0) g (search needs) (sent .0) (sent .1 .0) (sent .1 .1)
 
 pub apply-spec : {M : Type 1} → statement M
 apply-spec =
     tie.close
     (tie.spec
     (λ c κs. search needs)
-    gather-requires
+    quote-requires
+    submits-requires
     submit-all-requires
+    (λ c. search needs)
     (λ c. search needs)
     returns)

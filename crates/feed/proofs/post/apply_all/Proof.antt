@@ -3,40 +3,44 @@
 use mathlib.Core.Path.{_≡_, refl}
 use Prim.Native.Nat.{_-_}
 use lib.ListN.{length}
-use Rattle.laws.specs.Search.{run}
-use Rattle.model.specs.Feed.{applied}
+use Rattle.model.specs.Feed.{fed}
 use Rattle.model.specs.Rows.{rows}
-use Rattle.feed.specs.Apply.{Applying, Ready, applies, apply-known, apply-more, apply-volume}
+use Rattle.feed.specs.Apply.{Applying, apply-end, apply-entry, apply-more, apply-start}
 use borrow.Author.Needs.{needs}
 use Rattle.feed.proofs.post.apply_all.Statement.{statement}
 use Rattle.feed.proofs.post.apply_all.Tie as tie
 
 abbrev Inv-loop : tie.InvT-loop
-Inv-loop book₀ steady input times₀ ids₀ n from₀ i₀ book times ids from i =
-    Applying book input (run applied (record { rows = rows book₀; trades = 0 }) (rows input) .rows) i
-    × (Ready book steady from × (length book ≡ length book₀))
+Inv-loop book₀ dir₀ input at₀ n left₀ i₀ book dir at left i =
+    Applying (left₀ .free) (fed (rows book₀) (rows input)) input book dir left i
+    × ((length book ≡ length book₀) × (length dir ≡ length dir₀))
 
 abbrev μ-loop : tie.MeasureT-loop
-μ-loop book₀ steady input times₀ ids₀ n from₀ i₀ book times ids from i = n - i
+μ-loop book₀ dir₀ input at₀ n left₀ i₀ book dir at left i = n - i
 
 loop-holds : tie.Need-loop-holds Inv-loop μ-loop
-loop-holds c = (search (needs, applies), (c .before .before .pre .0, refl))
+loop-holds c = (apply-start (c .before .before .before .before .pre), (refl, refl))
 
 apply-requires : tie.Need-apply-requires Inv-loop μ-loop
 apply-requires c κs =
-    let entry = c .before .before .row-at .ensures in
-    let inv = c .before .before .before .before .before .loop .inv in
-    (inv .1 .0, (apply-known (inv .0) (search needs) entry, apply-volume (inv .0) (search needs) entry))
+    let test = c .before .before .before in
+    let loop = test .before in
+    apply-entry (loop .loop .inv .0) (rw (loop .before .places .ensures) at (test .loop-test .taken))
 
 loop-again : tie.Need-loop-again Inv-loop μ-loop
 loop-again c =
-    let one = c .before .before .apply in
-    let entry = c .before .before .before .before .before .row-at .ensures in
-    let inv = c .before .before .before .before .before .before .before .before .loop .inv in
-    (apply-more (inv .0) (search needs) entry _ (one .ensures .0), (one .ensures .1, search needs))
+    let apply = c .before .before .before .before in
+    let test = apply .before .before .before .before in
+    let loop = test .before in
+    let inv = loop .loop .inv in
+    let inside = rw (loop .before .places .ensures) at (test .loop-test .taken) in
+    (apply-more (inv .0) inside (apply .apply .ensures), (search needs, search needs))
 
-same-length : tie.Need-same-length Inv-loop μ-loop
-same-length c = c .before .loop .inv .1 .1
+returns : tie.Need-returns Inv-loop μ-loop
+returns c =
+    let loop = c .before in
+    let inv = loop .loop .inv .0 in
+    (apply-end inv (rw (loop .before .places .ensures) at (c .loop-test .left)), inv .ready .directory)
 
 pub apply-all-spec : {M : Type 1} → statement M
 apply-all-spec =
@@ -44,11 +48,12 @@ apply-all-spec =
     (tie.spec
     Inv-loop
     μ-loop
+    (λ c κs. search needs)
     loop-holds
-    (λ c κs. search (needs, applies))
     apply-requires
-    (λ c. search (needs, applies))
-    (λ c. search (needs, applies))
+    (λ c. search needs)
+    (λ c. search needs)
     loop-again
-    same-length
-    (λ c. search (needs, applies)))
+    (λ c. c .before .loop .inv .1 .0)
+    (λ c. c .before .loop .inv .1 .1)
+    returns)

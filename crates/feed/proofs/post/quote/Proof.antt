@@ -1,45 +1,62 @@
 -- The security's row is changed in its place, which is that of its key. Assumes nothing.
-use mathlib.Core.Path.{ap, _∙_}
-use native.Mathlib.Omega.{arith}
-use lib.ListN.{length}
-use Rattle.record.specs.declared.row.Row.{Row}
-use Rattle.shelf.specs.Rows.{length-putAt}
-use Rattle.tables.specs.Table.{key-row}
-use Rattle.feed.specs.Apply.{quoted}
+use mathlib.Core.Path.{refl}
+use Rattle.feed.specs.Submit.{quote-is, quote-stays, quote-volume, quoted}
 use borrow.Author.Needs.{needs}
 use Rattle.feed.proofs.post.quote.Statement.{statement}
 use Rattle.feed.proofs.post.quote.Tie as tie
 
-add-s : tie.Need-add-s
-add-s c =
-    let wide = c .before in
-    let row = wide .before in
-    let start = row .before .before .before .before .before in
-    let found = ap (λ (r : Row). r .m1) (key-row _ _ (row .before .before .security-at .ensures)
-    (row .row-at .ensures)) in
+security-requires : tie.Need-security-requires
+security-requires c κs = c .before .before .before .pre .0 .directory .listed
+
+sum-requires : tie.Need-sum-requires
+sum-requires c κs =
+    let security = c .before .before in
+    let start = security .before .before .before .before in
+    quote-volume (start .args .book .now) (start .args .entry) (start .pre .1 .0) (security .security .ensures)
+    (start .pre .1 .1) (c .security-at .ensures) refl refl .1
+
+change-requires : tie.Need-change-requires
+change-requires c κs =
+    let sum = c .before .before .before .before .before in
+    let at = sum .before in
+    let security = at .before .before in
+    let start = security .before .before .before .before in
+    let b = start .args .book .now in
+    let e = start .args .entry in
+    let p = security .security .ensures in
     let fits = start .pre .1 .1 in
-    let shares = wide .wide32 .ensures .0 in
-    omega arith
+    let is =
+    quote-is b e (start .pre .1 .0) p fits (start .pre .0 .written _) (at .security-at .ensures) refl refl
+    (sum .sum .ensures) (c .row .ensures)
+    in
+    (start .pre .0 .directory, quote-stays b e (start .pre .1 .0) p fits is)
 
 returns : tie.Need-returns
 returns c =
-    let put-at = c .before .before in
-    let wide = put-at .before .before .before in
-    let row = wide .before in
-    let start = row .before .before .before .before .before in
-    let put = put-at .put in
-    quoted _ _ _ (start .args .entry) (start .pre .1 .0) (row .before .before .security-at .ensures)
-    (row .row-at .ensures)
-    (wide .wide32 .ensures .0) (ap length (put .ensures .0) ∙ length-putAt _ _ _) (put .ensures .1)
+    let change = c .before .before in
+    let row = change .before in
+    let sum = row .before .before .before .before .before in
+    let at = sum .before in
+    let security = at .before .before in
+    let start = security .before .before .before .before in
+    let b = start .args .book .now in
+    let e = start .args .entry in
+    let p = security .security .ensures in
+    let fits = start .pre .1 .1 in
+    let is =
+    quote-is b e (start .pre .1 .0) p fits (start .pre .0 .written _) (at .security-at .ensures) refl refl
+    (sum .sum .ensures) (row .row .ensures)
+    in
+    quoted b e (start .pre .1 .0) p fits is (start .pre .0) (change .change .ensures .0) (change .change .ensures .1)
 
 pub quote-spec : {M : Type 1} → statement M
 quote-spec =
     tie.close
     (tie.spec
+    security-requires
     (λ c κs. search needs)
+    sum-requires
     (λ c κs. search needs)
-    (λ c κs. search needs)
-    add-s
-    (λ c κs. search needs)
+    change-requires
     (λ c. search needs)
     returns)

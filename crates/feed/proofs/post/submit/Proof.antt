@@ -1,42 +1,67 @@
 -- The history row is added, and the trade's row changed in its place, which the added row does not move. Assumes
 -- nothing.
-use mathlib.Core.Path.{ap, refl, _∙_}
-use lib.ListN.{length}
-use Rattle.shelf.specs.Rows.{length-putAt}
-use Rattle.feed.specs.Apply.{added, submits-one}
+use mathlib.Core.Path.{refl}
+use Rattle.feed.specs.Submit.{history-is, history-live, sent-is, sent-one, sent-stays}
 use borrow.Author.Needs.{needs}
 use Rattle.feed.proofs.post.submit.Statement.{statement}
 use Rattle.feed.proofs.post.submit.Tie as tie
 
-trade-at-requires : tie.Need-trade-at-requires
-trade-at-requires c κs =
-    let add = c .before .before .before in
-    let start = add .before .before .before .before in
-    let long = ap length (add .add .ensures .1 .0) ∙ length-putAt _ _ _ in
-    added _ _ _ _ _ _ (start .pre .0) (add .before .history .ensures) long (add .add .ensures .0)
-    (add .add .ensures .1 .1) .1 .indexed
+add-requires : tie.Need-add-requires
+add-requires c κs =
+    let start = c .before .before .before .before .before in
+    let h = history-is (start .args .no) (start .args .time) (c .row .ensures) in
+    (start .pre .0 .0 .directory, (start .pre .0 .1, history-live _ _ h))
+
+trade-requires : tie.Need-trade-requires
+trade-requires c κs = c .before .before .before .before .before .before .add .ensures .1 .0 .listed
+
+change-requires : tie.Need-change-requires
+change-requires c κs =
+    let at = c .before .before .before in
+    let trade = at .before .before in
+    let add = trade .before .before .before .before .before .before .before in
+    let start = add .before .before .before .before .before .before in
+    let time = start .args .time .0 in
+    let i = start .args .no .0 in
+    let ready = start .pre .0 .0 in
+    let h = history-is (start .args .no) (start .args .time) (add .before .row .ensures) in
+    let p = trade .trade .ensures in
+    let is =
+    sent-is ready (start .pre .0 .1) time i (start .pre .1) h (add .add .ensures) p (at .trade-at .ensures) refl
+    (c .row2 .ensures)
+    in
+    (add .add .ensures .1 .0, sent-stays ready (start .pre .0 .1) time i (start .pre .1) h (add .add .ensures) p is)
 
 returns : tie.Need-returns
 returns c =
-    let put-at = c .before .before in
-    let row-at = put-at .before .before in
-    let trade-at = row-at .before .before in
-    let add = trade-at .before .before .before .before in
-    let start = add .before .before .before .before in
-    let put = put-at .put in
-    submits-one _ _ _ _ _ _ _ (start .pre .0) (start .pre .1) (add .before .history .ensures)
-    (ap length (add .add .ensures .1 .0) ∙ length-putAt _ _ _) (add .add .ensures .0) (add .add .ensures .1 .1)
-    (trade-at .trade-at .ensures) (row-at .row-at .ensures) refl (ap length (put .ensures .0) ∙ length-putAt _ _ _)
-    (put .ensures .1)
+    let change = c .before .before in
+    let row = change .before in
+    let at = row .before .before .before in
+    let trade = at .before .before in
+    let add = trade .before .before .before .before .before .before .before in
+    let start = add .before .before .before .before .before .before in
+    let time = start .args .time .0 in
+    let i = start .args .no .0 in
+    let ready = start .pre .0 .0 in
+    let h = history-is (start .args .no) (start .args .time) (add .before .row .ensures) in
+    let p = trade .trade .ensures in
+    let is =
+    sent-is ready (start .pre .0 .1) time i (start .pre .1) h (add .add .ensures) p (at .trade-at .ensures) refl
+    (row .row2 .ensures)
+    in
+    sent-one ready (start .pre .0 .1) time i (start .pre .1) h (add .add .ensures) p is (change .change .ensures .0)
+    (change .change .ensures .1)
 
 pub submit-spec : {M : Type 1} → statement M
 submit-spec =
     tie.close
     (tie.spec
     (λ c κs. search needs)
+    add-requires
+    trade-requires
     (λ c κs. search needs)
-    trade-at-requires
     (λ c κs. search needs)
-    (λ c κs. search needs)
+    change-requires
+    (λ c. search needs)
     (λ c. search needs)
     returns)

@@ -1,16 +1,15 @@
 -- The limits are the model's by computation, and each further rule is its own test. Assumes nothing.
+use mathlib.Core.Path.{_≡_}
 use Rattle.rules.specs.Ranges.{limited}
 use Rattle.rules.specs.Rules.{lotLimits, obeys, lotShape}
 use borrow.Author.Needs.{needs}
-use mathlib.Core.Path.{_≡_}
 use Rattle.fields.proofs.trading.lot.Statement.{statement}
 use Rattle.fields.proofs.trading.lot.Tie as tie
 
 returns : tie.Need-returns
 unfolding obeys lotShape
 returns c =
-    let d = c .before .before .before in
-    let e : d .in-limits .result ≡ limited _ lotLimits = d .in-limits .ensures in
+    let e : c .before .before .in-limits .result ≡ limited _ lotLimits = c .before .before .in-limits .ensures in
     cc
 
 pub lot-spec : {M : Type 1} → statement M
@@ -19,6 +18,5 @@ lot-spec =
     (tie.spec
     (λ c κs. search needs)
     (λ c. search needs)
-    (λ c κs. search needs)
     (λ c κs. search needs)
     returns)

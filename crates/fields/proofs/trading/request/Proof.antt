@@ -1,17 +1,20 @@
 -- The limits are the model's by computation, and each further rule is its own test. Assumes nothing.
+use mathlib.Core.Path.{_≡_}
 use Rattle.rules.specs.Ranges.{limited}
 use Rattle.rules.specs.Rules.{requestLimits, obeys, requestShape}
 use borrow.Author.Needs.{needs}
-use mathlib.Core.Path.{_≡_}
 use Rattle.fields.proofs.trading.request.Statement.{statement}
 use Rattle.fields.proofs.trading.request.Tie as tie
 
 returns : tie.Need-returns
 unfolding obeys requestShape
 returns c =
-    let d = c .before in
-    let e : d .in-limits .result ≡ limited _ requestLimits = d .in-limits .ensures in
+    let e : c .in-limits .result ≡ limited _ requestLimits = c .in-limits .ensures in
     cc
 
 pub request-spec : {M : Type 1} → statement M
-request-spec = tie.close (tie.spec (λ c κs. search needs) (λ c κs. search needs) returns)
+request-spec =
+    tie.close
+    (tie.spec
+    (λ c κs. search needs)
+    returns)

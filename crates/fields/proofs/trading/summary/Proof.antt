@@ -1,17 +1,20 @@
 -- The limits are the model's by computation, and each further rule is its own test. Assumes nothing.
+use mathlib.Core.Path.{_≡_}
 use Rattle.rules.specs.Ranges.{limited}
 use Rattle.rules.specs.Rules.{summaryLimits, obeys, summaryShape}
 use borrow.Author.Needs.{needs}
-use mathlib.Core.Path.{_≡_}
 use Rattle.fields.proofs.trading.summary.Statement.{statement}
 use Rattle.fields.proofs.trading.summary.Tie as tie
 
 returns : tie.Need-returns
 unfolding obeys summaryShape
 returns c =
-    let d = c .before .before in
-    let e : d .in-limits .result ≡ limited _ summaryLimits = d .in-limits .ensures in
+    let e : c .before .in-limits .result ≡ limited _ summaryLimits = c .before .in-limits .ensures in
     cc
 
 pub summary-spec : {M : Type 1} → statement M
-summary-spec = tie.close (tie.spec (λ c κs. search needs) (λ c κs. search needs) returns)
+summary-spec =
+    tie.close
+    (tie.spec
+    (λ c κs. search needs)
+    returns)

@@ -1,6 +1,7 @@
 -- As `walk` of find, for the band that holds the shares. Assumes nothing.
 use Prim.Native.Nat.{_-_}
 use Rattle.laws.specs.Search.{place}
+use Rattle.record.specs.Signed.{up}
 use Rattle.model.specs.Band.{bandFor}
 use Rattle.model.specs.Rows.{rows}
 use Rattle.directory.specs.Listed.{Probed, walks}
@@ -11,8 +12,8 @@ use Rattle.groups.proofs.band.band.Tie as tie
 
 abbrev Inv-loop : tie.InvT-loop
 Inv-loop book dir form tier exchange shares n c₀ c =
-    Probed (bandFor form tier exchange shares) (bandGroup form tier exchange) book dir
-    (place (bandFor form tier exchange shares) (rows book)) c
+    Probed (bandFor form tier exchange (up (shares .0))) (bandGroup form tier exchange) book dir
+    (place (bandFor form tier exchange (up (shares .0))) (rows book)) c
 
 abbrev μ-loop : tie.MeasureT-loop
 μ-loop book dir form tier exchange shares n c₀ c = n - c

@@ -1,25 +1,30 @@
 -- Eight fields are set in the row of a free record, the tax with its bytes turned round. Assumes nothing.
-use Rattle.order.specs.Post.{answerOf}
 use borrow.Author.Needs.{needs}
+use Rattle.order.specs.Post.{answerOf}
 use Rattle.order.proofs.post.answer_row.Statement.{statement}
 use Rattle.order.proofs.post.answer_row.Tie as tie
 
 returns : tie.Need-returns
 unfolding answerOf
 returns c =
-    let tax = c .before .before in
+    let bought = c .before in
+    let charge = bought .before in
+    let turned = charge .before in
+    let tax = turned .before in
     rw (
-      tax .before .before .nothing .ensures,
-      tax .holding .ensures,
-      tax .before .in-cents .ensures,
-      c .before .in-cents2 .ensures,
-      c .in-cents3 .ensures,
+      tax .before .nothing .ensures,
+      turned .holding .ensures,
+      tax .bits .ensures,
+      charge .low .ensures,
+      bought .bits2 .ensures,
+      c .bits3 .ensures,
     )
 
 pub answer-row-spec : {M : Type 1} → statement M
 answer-row-spec =
     tie.close
     (tie.spec
+    (λ c κs. search needs)
     (λ c κs. search needs)
     (λ c κs. search needs)
     (λ c κs. search needs)

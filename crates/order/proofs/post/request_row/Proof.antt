@@ -1,10 +1,16 @@
--- Seven fields are set in the row of a free record. Assumes nothing.
+-- The row of the typed request. Assumes nothing.
 use borrow.Author.Needs.{needs}
+use Rattle.order.specs.Post.{requestOf}
 use Rattle.order.proofs.post.request_row.Statement.{statement}
 use Rattle.order.proofs.post.request_row.Tie as tie
 
 returns : tie.Need-returns
-returns c = rw (c .nothing .ensures)
+unfolding requestOf
+returns c = c .row .ensures
 
 pub request-row-spec : {M : Type 1} → statement M
-request-row-spec = tie.close (tie.spec (λ c κs. search needs) returns)
+request-row-spec =
+    tie.close
+    (tie.spec
+    (λ c κs. search needs)
+    returns)

@@ -1,16 +1,17 @@
 -- What each kind asks of its trade. Assumes nothing.
-use borrow.Author.Needs.{needs}
 use Rattle.sound.specs.Hung.{as-request, cash-fits, history-fits, lot-fits, request-kind, settlement-fits}
+use borrow.Author.Needs.{needs}
 use Rattle.sound.proofs.hang.fits_trade.Statement.{statement}
 use Rattle.sound.proofs.hang.fits_trade.Tie as tie
 
 returns-5 : tie.Need-returns-5
 returns-5 c =
-    let no = c .before .match .rest in
-    let start = c .before .before .before in
-    as-request _ _ (start .args .r)
-    (request-kind (start .args .r) (start .pre .1 .0) (no .0 .0 .0 .1) (no .0 .0 .1) (no .0 .1) (no .1))
-    (c .asked .ensures)
+    let at-match = c .before in
+    let entry = at-match .before .before .before in
+    let no = at-match .match .rest in
+    let r = entry .args .r in
+    as-request _ _ r
+    (request-kind r (entry .pre .1 .0) (no .0 .0 .0 .1) (no .0 .0 .1) (no .0 .1) (no .1)) (c .asked .ensures)
 
 pub fits-trade-spec : {M : Type 1} → statement M
 fits-trade-spec =

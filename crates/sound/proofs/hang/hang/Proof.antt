@@ -1,24 +1,31 @@
-use Rattle.sound.specs.Says.{says-no, says-yes}
 -- The invariant: the rows of the kind before place c are well, and with those of lower kinds they are marked. The
 -- measure is the number of places left. Assumes nothing.
-use Rattle.sound.specs.Turn.{Hanging, hang-all, hangings}
-use Rattle.sound.specs.Chains.{chains}
+use mathlib.Core.Path.{_≡_}
 use Prim.Native.Nat.{_-_}
+use lib.ListN.{length}
+use Rattle.sound.specs.Chains.{chains}
+use Rattle.sound.specs.Says.{says-no, says-yes}
+use Rattle.sound.specs.Turn.{Hanging, hang-all, hangings}
 use borrow.Author.Needs.{needs}
 use Rattle.sound.proofs.hang.hang.Statement.{statement}
 use Rattle.sound.proofs.hang.hang.Tie as tie
 
 abbrev Inv-loop : tie.InvT-loop
-Inv-loop book keys kinds marks₀ kind n c₀ marks c = Hanging book kind c marks
+Inv-loop book dir links marks₀ kind n c₀ marks c = Hanging book kind c marks × (length marks ≡ length marks₀)
 
 abbrev μ-loop : tie.MeasureT-loop
-μ-loop book keys kinds marks₀ kind n c₀ marks c = n - c
+μ-loop book dir links marks₀ kind n c₀ marks c = n - c
 
 returns : tie.Need-returns Inv-loop μ-loop
 returns c = says-no _ (c .before .slot-at .ensures .no (c .if1 .taken))
 
+slice-write-marks : tie.Need-slice-write-marks Inv-loop μ-loop
+slice-write-marks c =
+    let low = c .before .slot-at .ensures .yes (c .if1 .left) .low in
+    search needs
+
 returns-2 : tie.Need-returns-2 Inv-loop μ-loop
-returns-2 c = says-yes (hang-all (c .before .loop .inv) (c .loop-test .left)) _
+returns-2 c = says-yes (hang-all (c .before .loop .inv .0) (c .loop-test .left)) _
 
 pub hang-spec : {M : Type 1} → statement M
 hang-spec =
@@ -28,16 +35,12 @@ hang-spec =
     μ-loop
     (λ c κs. search (needs, chains, hangings))
     (λ c. search (needs, chains, hangings))
-    (λ c. search (needs, chains, hangings))
     (λ c κs. search (needs, chains, hangings))
     (λ c. search (needs, chains, hangings))
-    (λ c κs. search (needs, chains, hangings))
     returns
-    (λ c. search (needs, chains, hangings))
-    (λ c. search (needs, chains, hangings))
-    (λ c. search (needs, chains, hangings))
-    (λ c. search (needs, chains, hangings))
+    slice-write-marks
     (λ c κs. search (needs, chains, hangings))
+    (λ c. search (needs, chains, hangings))
     (λ c. search (needs, chains, hangings))
     (λ c. search (needs, chains, hangings))
     returns-2)

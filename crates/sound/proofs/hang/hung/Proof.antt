@@ -2,17 +2,17 @@
 -- a trade. The measure is the number of places left. Assumes nothing.
 use Prim.Native.Nat.{_-_}
 use Rattle.record.specs.Codes.{kindTrade}
-use borrow.Author.Needs.{needs}
 use Rattle.sound.specs.Chains.{Going, chains}
 use Rattle.sound.specs.Kinds.{HungAt, kinds}
+use borrow.Author.Needs.{needs}
 use Rattle.sound.proofs.hang.hung.Statement.{statement}
 use Rattle.sound.proofs.hang.hung.Tie as tie
 
 abbrev Inv-loop : tie.InvT-loop
-Inv-loop book kinds marks n c₀ c = Going (HungAt book) book kindTrade c
+Inv-loop book links marks n c₀ c = Going (HungAt book) book kindTrade c
 
 abbrev μ-loop : tie.MeasureT-loop
-μ-loop book kinds marks n c₀ c = n - c
+μ-loop book links marks n c₀ c = n - c
 
 hung-at-requires : tie.Need-hung-at-requires Inv-loop μ-loop
 hung-at-requires c κs =
@@ -28,13 +28,7 @@ hung-spec =
     μ-loop
     (λ c κs. search (needs, chains, kinds))
     (λ c. search (needs, chains, kinds))
-    (λ c. search (needs, chains, kinds))
-    (λ c κs. search (needs, chains, kinds))
-    (λ c. search (needs, chains, kinds))
     hung-at-requires
-    (λ c. search (needs, chains, kinds))
-    (λ c. search (needs, chains, kinds))
-    (λ c. search (needs, chains, kinds))
     (λ c κs. search (needs, chains, kinds))
     (λ c. search (needs, chains, kinds))
     (λ c. search (needs, chains, kinds))

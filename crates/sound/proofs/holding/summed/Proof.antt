@@ -6,14 +6,21 @@ use Rattle.sound.proofs.holding.summed.Tie as tie
 
 returns : tie.Need-returns
 returns c =
-    let two = c .before .before .before .before in
-    let one = two .before .before in
-    let held = one .before in
-    summary-is _ (held .before .before .args .s) (held .holding .ensures .0) (held .holding .ensures .1 .0 .0)
-    (held .holding .ensures .1 .1 .0) (one .side .ensures .0) (two .side2 .ensures .0)
+    let at-side2 = c .before .before .before .before in
+    let at-side = at-side2 .before .before in
+    let at-holding = at-side .before in
+    let entry = at-holding .before .before .before in
+    let held = at-holding .holding .ensures in
+    summary-is _ (entry .args .s) (held .0) (held .1 .0 .0) (held .1 .1 .0) (at-side .side .ensures .0)
+    (at-side2 .side2 .ensures .0)
 
 pub summed-spec : {M : Type 1} → statement M
 summed-spec =
     tie.close
-    (tie.spec (λ c κs. search needs) (λ c κs. search needs) (λ c. search needs) (λ c κs. search needs)
-    (λ c. search needs) returns)
+    (tie.spec
+    (λ c κs. search needs)
+    (λ c κs. search needs)
+    (λ c. search needs)
+    (λ c κs. search needs)
+    (λ c. search needs)
+    returns)

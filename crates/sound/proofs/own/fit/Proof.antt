@@ -1,17 +1,17 @@
 -- The invariant: the rows of the kind before place c fit, and c is the next place of the kind. The measure is the
 -- number of places left. Assumes nothing.
 use Prim.Native.Nat.{_-_}
-use borrow.Author.Needs.{needs}
 use Rattle.sound.specs.Chains.{Going, chains}
 use Rattle.sound.specs.Kinds.{FitsAt, kinds}
+use borrow.Author.Needs.{needs}
 use Rattle.sound.proofs.own.fit.Statement.{statement}
 use Rattle.sound.proofs.own.fit.Tie as tie
 
 abbrev Inv-loop : tie.InvT-loop
-Inv-loop book kinds kind n c₀ c = Going (FitsAt book) book kind c
+Inv-loop book links kind n c₀ c = Going (FitsAt book) book kind c
 
 abbrev μ-loop : tie.MeasureT-loop
-μ-loop book kinds kind n c₀ c = n - c
+μ-loop book links kind n c₀ c = n - c
 
 pub fit-spec : {M : Type 1} → statement M
 fit-spec =
@@ -21,14 +21,7 @@ fit-spec =
     μ-loop
     (λ c κs. search (needs, chains, kinds))
     (λ c. search (needs, chains, kinds))
-    (λ c. search (needs, chains, kinds))
     (λ c κs. search (needs, chains, kinds))
-    (λ c. search (needs, chains, kinds))
-    (λ c κs. search (needs, chains, kinds))
-    (λ c κs. search (needs, chains, kinds))
-    (λ c. search (needs, chains, kinds))
-    (λ c. search (needs, chains, kinds))
-    (λ c. search (needs, chains, kinds))
     (λ c κs. search (needs, chains, kinds))
     (λ c. search (needs, chains, kinds))
     (λ c. search (needs, chains, kinds))

@@ -1,25 +1,31 @@
--- The row that is read is the one at the place. Assumes nothing.
-use mathlib.Core.Path.{sym, ap, _∙_}
-use Rattle.record.specs.declared.row.Row.{Row}
+-- S2, and the rest. Assumes nothing.
+use mathlib.Core.Path.{ap, _∙_}
+use Prim.Native.Nat.{ℕ}
+use Rattle.rules.specs.Key.{among}
+use Rattle.sound.specs.Hung.{hungKinds}
+use Rattle.sound.specs.Told.{told-last}
 use borrow.Author.Needs.{needs}
 use Rattle.sound.proofs.own.own_at.Statement.{statement}
 use Rattle.sound.proofs.own.own_at.Tie as tie
 
-right-requires : tie.Need-right-requires
-right-requires c κs =
-    let start = c .before .before .before .before .pre in
-    let row = c .before .before .row-at .ensures in
-    (start .0, (start .1 .0, λ e. start .1 .1 .1 (ap (λ (r : Row). r .kind) (sym row) ∙ e)))
+last-requires : tie.Need-last-requires
+last-requires c κs =
+    let start = c .before .before .pre in
+    let apart = ap (λ (k : ℕ). among k hungKinds) (start .1 .0 .1) ∙ start .1 .0 .2 in
+    (start .0, (start .1 .0 .0, apart))
+
+told-requires : tie.Need-told-requires
+told-requires c κs =
+    let start = c .before .before .before .pre in
+    (start .0, ((start .1 .0 .0, start .1 .0 .1), start .1 .1))
 
 returns : tie.Need-returns
-returns c =
-    rw (
-      c .before .before .row-fits .ensures,
-      c .before .last .ensures,
-      c .right .ensures,
-      c .before .before .before .row-at .ensures,
-    )
+returns c = told-last _ _ (c .before .last .ensures) (c .told .ensures)
 
 pub own-at-spec : {M : Type 1} → statement M
 own-at-spec =
-    tie.close (tie.spec (λ c κs. search needs) (λ c κs. search needs) (λ c κs. search needs) right-requires returns)
+    tie.close
+    (tie.spec
+    last-requires
+    told-requires
+    returns)

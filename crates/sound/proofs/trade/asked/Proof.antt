@@ -1,10 +1,15 @@
--- By the account that is found. Assumes nothing.
+-- By the broker of the account. Assumes nothing.
 use borrow.Author.Needs.{needs}
 use Rattle.sound.proofs.trade.asked.Statement.{statement}
 use Rattle.sound.proofs.trade.asked.Tie as tie
 
 returns : tie.Need-returns
-returns c = rw (c .agrees .ensures, c .before .before .party-row .ensures)
+returns c = rw (c .agrees .ensures, c .before .broker-of .ensures)
 
 pub asked-spec : {M : Type 1} → statement M
-asked-spec = tie.close (tie.spec (λ c κs. search needs) (λ c κs. search needs) returns)
+asked-spec =
+    tie.close
+    (tie.spec
+    (λ c κs. search needs)
+    (λ c κs. search needs)
+    returns)

@@ -13,13 +13,24 @@ sound-requires c κs =
 
 returns-2 : tie.Need-returns-2
 returns-2 c =
-    let checked = c .before .before in
-    sound-book _ _ (checked .before .whole .ensures) (checked .if1 .left) (c .before .sound .ensures) (c .if2 .taken)
+    let at-sound = c .before in
+    let at-if1 = at-sound .before in
+    let at-whole = at-if1 .before in
+    sound-book _ _ (at-whole .whole .ensures) (at-if1 .if1 .left) (at-sound .sound .ensures) (c .if2 .taken)
 
 returns-3 : tie.Need-returns-3
 returns-3 c =
-    let checked = c .before .before in
-    unsound-book _ _ (checked .before .whole .ensures) (checked .if1 .left) (c .before .sound .ensures) (c .if2 .left)
+    let at-sound = c .before in
+    let at-if1 = at-sound .before in
+    let at-whole = at-if1 .before in
+    unsound-book _ _ (at-whole .whole .ensures) (at-if1 .if1 .left) (at-sound .sound .ensures) (c .if2 .left)
 
 pub status-spec : {M : Type 1} → statement M
-status-spec = tie.close (tie.spec (λ c κs. search needs) returns sound-requires returns-2 returns-3)
+status-spec =
+    tie.close
+    (tie.spec
+    (λ c κs. search needs)
+    returns
+    sound-requires
+    returns-2
+    returns-3)

@@ -1,15 +1,17 @@
--- Each test is moved to the side that can't leave its type. Assumes nothing.
-use borrow.Author.Needs.{needs}
+-- Each test is one of the rules. Assumes nothing.
 use Rattle.verdict.specs.Judge.{in-range}
+use borrow.Author.Needs.{needs}
 use Rattle.verdict.proofs.judge.in_range.Statement.{statement}
 use Rattle.verdict.proofs.judge.in_range.Tie as tie
 
 returns : tie.Need-returns
 returns c =
-    let tested = c .before .before in
-    let first = tested .before .before in
-    in-range (first .args .broker) (first .args .figures) (first .pre) (tested .near .ensures)
-    (tested .before .in-cents .ensures)
+    let near = c .before .before in
+    let less = near .before in
+    let start = less .before .before in
+    let v = start .args in
+    in-range (v .broker) (v .balance) (v .commission) (start .pre) (near .near .ensures) (less .plain .ensures .0)
+    (c .plain2 .ensures .0)
 
 pub in-range-spec : {M : Type 1} → statement M
 in-range-spec =
@@ -17,5 +19,6 @@ in-range-spec =
     (tie.spec
     (λ c κs. search needs)
     (λ c. search needs)
+    (λ c κs. search needs)
     (λ c κs. search needs)
     returns)

@@ -1,33 +1,18 @@
--- The sum is no further from zero than both together, which fit. Assumes nothing.
-use Rattle.kinds.specs.Sums.{abs-add, sum-fits}
+-- The sum of the numbers, under its name. Assumes nothing.
+use borrow.Author.Needs.{needs}
+use mathlib.Core.Path.{ap}
 use Rattle.record.specs.Signed.{got64}
-use mathlib.Core.Path.{refl}
-use mir.Facts.{toZ-ofZ}
+use Rattle.kinds.specs.Units.{cents}
 use Rattle.kinds.proofs.units.Cents.plus.Statement.{statement}
 use Rattle.kinds.proofs.units.Cents.plus.Tie as tie
 
-add-t3 : tie.Need-add-t3
-add-t3 c =
-    let told = c .before .before in
-    let a = told .before .before in
-    rw (
-      got64 (a .args .self .0) (told .struct-told .given .0 .1),
-      got64 (a .args .other .0) (c .struct-told2 .given .0 .1),
-    )
-    (sum-fits (a .args .self .0) (a .args .other .0) (a .pre))
-
 returns : tie.Need-returns
 returns c =
-    let told = c .before .before in
-    let a = told .before .before in
-    let x = a .args .self .0 in
-    let y = a .args .other .0 in
-    rw (
-      got64 x (told .struct-told .given .0 .1),
-      got64 y (c .struct-told2 .given .0 .1),
-      toZ-ofZ (sum-fits x y (a .pre)),
-    )
-    (refl, abs-add x y)
+    let a = c .before .before .before .args in
+    let own = got64 (a .self .0) (c .before .before .struct-told .given .0 .1) in
+    let more = got64 (a .other .0) (c .before .struct-told2 .given .0 .1) in
+    let made = rw (own, more) at (c .sum .ensures) in
+    rw (got64 (c .sum .result) (c .sum .ok)) (ap cents (made .0), made .1)
 
 pub plus-spec : {M : Type 1} → statement M
-plus-spec = tie.close (tie.spec add-t3 returns)
+plus-spec = tie.close (tie.spec (λ c κs. search needs) returns)

@@ -1,0 +1,38 @@
+-- As `walk` of find, with the fields of this key alone. Assumes nothing.
+use Prim.Native.Nat.{_-_}
+use Rattle.laws.specs.Search.{place}
+use Rattle.record.specs.Symbol.{noSymbol}
+use Rattle.model.specs.Rows.{hasKey, rows}
+use Rattle.chains.specs.Group.{aGroup}
+use Rattle.directory.specs.Listed.{Probed, walks}
+use Rattle.directory.specs.Plain.{plain-grouped}
+use Rattle.model.specs.Names.{aSecurity}
+use Rattle.record.specs.Codes.{kindSecurity}
+use borrow.Author.Needs.{needs}
+use Rattle.directory.proofs.typed.security.Statement.{statement}
+use Rattle.directory.proofs.typed.security.Tie as tie
+
+abbrev Inv-loop : tie.InvT-loop
+Inv-loop book dir symbol n c₀ c =
+    Probed (hasKey (aSecurity symbol)) (aGroup kindSecurity 0 0 0 0 0 symbol) book dir
+    (place (hasKey (aSecurity symbol)) (rows book)) c
+
+abbrev μ-loop : tie.MeasureT-loop
+μ-loop book dir symbol n c₀ c = n - c
+
+pub security-spec : {M : Type 1} → statement M
+security-spec =
+    tie.close
+    (tie.spec
+    Inv-loop
+    μ-loop
+    (λ c κs. search (needs, walks, plain-grouped))
+    (λ c κs. search (needs, walks, plain-grouped))
+    (λ c. search (needs, walks, plain-grouped))
+    (λ c κs. search (needs, walks, plain-grouped))
+    (λ c κs. search (needs, walks, plain-grouped))
+    (λ c. search (needs, walks, plain-grouped))
+    (λ c κs. search (needs, walks, plain-grouped))
+    (λ c. search (needs, walks, plain-grouped))
+    (λ c. search (needs, walks, plain-grouped))
+    (λ c. search (needs, walks, plain-grouped)))

@@ -1,0 +1,10 @@
+-- The test is the definition's, and the symbols are compared as it says. Assumes nothing.
+use borrow.Author.Needs.{needs}
+use Rattle.groups.proofs.requests.asked.Statement.{statement}
+use Rattle.groups.proofs.requests.asked.Tie as tie
+
+returns : tie.Need-returns
+returns c = rw (c .same .ensures)
+
+pub asked-spec : {M : Type 1} → statement M
+asked-spec = tie.close (tie.spec (λ c κs. search needs) returns)

@@ -1,0 +1,3 @@
+pub mod Amounts
+pub mod Fees
+pub mod Settle

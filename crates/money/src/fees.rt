@@ -1,0 +1,70 @@
+// The value of shares at a price, and what is paid on it: tax and commission, rounded to the nearest cent, halves up.
+// Each lies within half a cent of the exact fraction, by `tax-near` and `commission-near` of the model.
+ghost use mathlib.Core.Path.{_≡_};
+ghost use Prim.Native.Nat.{_*_, _/_, _<_, _≤_};
+ghost use lib.IntN.{pos};
+ghost use Rattle.record.specs.Signed.{up};
+ghost use Rattle.kinds.specs.Units.{cents};
+ghost use Rattle.rules.specs.Ranges.{commissionPart, fee, priceMost, sharesMost, taxPart};
+ghost use Rattle.model.specs.Money.{commissionOf, rounded, taxOf, taxable, untaxed};
+ghost use Rattle.money.specs.Amounts.{UpTo, valueMost};
+use kinds::limits::Ranges;
+use kinds::units::Cents;
+use kinds::units::PerHundredThousand;
+use kinds::units::PerTenThousand;
+use kinds::units::Price;
+use kinds::units::Shares;
+
+pub fn value(shares: Shares, price: Price) -> Cents
+    requires { ⌜ (up (shares .0) ≤ sharesMost) × (price .0 ≤ priceMost) ⌝ }
+    ensures { λ r. ⌜ r ≡ cents (pos (up (shares .0) * price .0)) ⌝ }
+    ensures { λ r. ⌜ UpTo valueMost (r .0) ⌝ }
+{
+    Cents::of(shares.plain() * price.0 as u64)
+}
+
+// So many parts of a cent, of which a whole one has an even number, to the nearest cent.
+fn nearest(parts: u64, whole: u32) -> Cents
+    requires { ⌜ (0 < whole) × (whole ≡ 2 * (whole / 2)) × (whole ≤ taxPart .high) ⌝ }
+    requires { ⌜ parts ≤ fee .high * whole ⌝ }
+    ensures { λ r. ⌜ r ≡ cents (pos (rounded parts whole)) ⌝ }
+    ensures { λ r. ⌜ UpTo (fee .high) (r .0) ⌝ }
+{
+    Cents::of((parts + whole as u64 / 2) / whole as u64)
+}
+
+fn taxable(tax_status: u8, bought: Cents, sold: Cents) -> bool
+    ensures { λ r. ⌜ r ≡ taxable «tax_status» (up (bought .0)) (up (sold .0)) ⌝ }
+{
+    (1 <= tax_status) & (bought.plain() < sold.plain())
+}
+
+// The tax on a gain, only for tax status 1 or 2.
+pub fn tax(tax_status: u8, rates: PerHundredThousand, bought: Cents, sold: Cents) -> Cents
+    requires { ⌜ (rates .0 ≤ taxPart .high) × (up (sold .0) ≤ valueMost) ⌝ }
+    ensures { λ r. ⌜ r ≡ cents (pos (taxOf «tax_status» (rates .0) (up (bought .0)) (up (sold .0)))) ⌝ }
+    ensures { λ r. ⌜ UpTo (fee .high) (r .0) ⌝ }
+{
+    if taxable(tax_status, bought, sold) {
+        let gain = sold.plain() - bought.plain();
+        return nearest(gain * rates.0 as u64, Ranges::RATE_MOST);
+    }
+    Cents(0)
+}
+
+// There is a gain that is to be tax_status, yet the tax is 0.
+pub fn untaxed(tax_status: u8, rates: PerHundredThousand, bought: Cents, sold: Cents) -> bool
+    requires { ⌜ (rates .0 ≤ taxPart .high) × (up (sold .0) ≤ valueMost) ⌝ }
+    ensures { λ r. ⌜ r ≡ untaxed «tax_status» (rates .0) (up (bought .0)) (up (sold .0)) ⌝ }
+{
+    taxable(tax_status, bought, sold) & (tax(tax_status, rates, bought, sold).plain() == 0)
+}
+
+pub fn commission(rate: PerTenThousand, shares: Shares, price: Price) -> Cents
+    requires { ⌜ (rate .0 ≤ commissionPart .high) × (up (shares .0) ≤ sharesMost) × (price .0 ≤ priceMost) ⌝ }
+    ensures { λ r. ⌜ r ≡ cents (pos (commissionOf (rate .0) (up (shares .0)) (price .0))) ⌝ }
+    ensures { λ r. ⌜ UpTo (fee .high) (r .0) ⌝ }
+{
+    let parts = rate.0 as u64 * shares.plain() * price.0 as u64;
+    nearest(parts, Ranges::COMMISSION_MOST)
+}

@@ -1,0 +1,5 @@
+pub mod Rows
+pub mod Turned
+pub mod Add
+pub mod Change
+pub mod Close

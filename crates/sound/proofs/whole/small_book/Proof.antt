@@ -1,0 +1,31 @@
+-- The area is large enough for the directory, and blank. Assumes nothing.
+use native.Mathlib.Omega.{arith}
+use Rattle.directory.specs.Directory.{blank-of}
+use borrow.Author.Needs.{needs}
+use Rattle.sound.proofs.whole.small_book.Statement.{statement}
+use Rattle.sound.proofs.whole.small_book.Tie as tie
+
+narrow-requires : tie.Need-narrow-requires
+narrow-requires c κs =
+    let few = c .before .pre in
+    search needs
+
+build-requires : tie.Need-build-requires
+build-requires c κs =
+    let few = c .before .before .before .pre in
+    (omega arith, blank-of _ 256 _ (c .before .narrow .ensures) (omega arith) (omega arith))
+
+small-requires : tie.Need-small-requires
+small-requires c κs =
+    (c .before .before .build .ensures .listed, c .before .before .before .before .before .before .pre)
+
+pub small-book-spec : {M : Type 1} → statement M
+small-book-spec =
+    tie.close
+    (tie.spec
+    narrow-requires
+    (λ c. search needs)
+    build-requires
+    (λ c. search needs)
+    small-requires
+    (λ c. search needs))

@@ -1,4 +1,0 @@
-pub mod Bucket
-pub mod Keyed
-pub mod Table
-pub mod Sums
