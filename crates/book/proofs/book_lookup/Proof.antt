@@ -55,21 +55,7 @@ looked-requires-3 c κs =
 pub book-lookup-spec : {M : Type 1} → statement M
 book-lookup-spec =
     tie.close
-    (tie.spec
-    (λ c κs. search needs)
-    (λ c. search needs)
-    (λ c κs. search needs)
-    returns
-    (λ c κs. search needs)
-    (λ c. search needs)
-    looked-requires
-    (λ c. search needs)
-    (λ c. search needs)
-    (λ c. search needs)
-    looked-requires-2
-    (λ c. search needs)
-    (λ c. search needs)
-    (λ c. search needs)
-    looked-requires-3
-    (λ c. search needs)
+    (tie.spec (λ c κs. search needs) (λ c. search needs) (λ c κs. search needs) returns (λ c κs. search needs)
+    (λ c. search needs) looked-requires (λ c. search needs) (λ c. search needs) (λ c. search needs) looked-requires-2
+    (λ c. search needs) (λ c. search needs) (λ c. search needs) looked-requires-3 (λ c. search needs)
     (λ c. search needs))

@@ -9,10 +9,4 @@ unfolding run
 returns c = search needs
 
 pub book-order-spec : {M : Type 1} → statement M
-book-order-spec =
-    tie.close
-    (tie.spec
-    (λ c κs. search needs)
-    (λ c. search needs)
-    (λ c. search needs)
-    returns)
+book-order-spec = tie.close (tie.spec (λ c κs. search needs) (λ c. search needs) (λ c. search needs) returns)

@@ -9,10 +9,4 @@ unfolding run
 returns c = search needs
 
 pub book-result-spec : {M : Type 1} → statement M
-book-result-spec =
-    tie.close
-    (tie.spec
-    (λ c κs. search needs)
-    (λ c. search needs)
-    (λ c. search needs)
-    returns)
+book-result-spec = tie.close (tie.spec (λ c κs. search needs) (λ c. search needs) (λ c. search needs) returns)

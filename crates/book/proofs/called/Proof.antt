@@ -43,23 +43,7 @@ within-requires-3 c κs =
 pub called-spec : {M : Type 1} → statement M
 called-spec =
     tie.close
-    (tie.spec
-    (λ c κs. search needs)
-    (λ c κs. search needs)
-    returns
-    (λ c κs. search needs)
-    (λ c. search needs)
-    within-requires
-    (λ c. search needs)
-    (λ c. search needs)
-    (λ c. search needs)
-    (λ c. search needs)
-    within-requires-2
-    (λ c. search needs)
-    (λ c. search needs)
-    (λ c. search needs)
-    (λ c. search needs)
-    within-requires-3
-    (λ c. search needs)
-    (λ c. search needs)
-    (λ c. search needs))
+    (tie.spec (λ c κs. search needs) (λ c κs. search needs) returns (λ c κs. search needs) (λ c. search needs)
+    within-requires (λ c. search needs) (λ c. search needs) (λ c. search needs) (λ c. search needs) within-requires-2
+    (λ c. search needs) (λ c. search needs) (λ c. search needs) (λ c. search needs) within-requires-3
+    (λ c. search needs) (λ c. search needs) (λ c. search needs))

@@ -22,13 +22,5 @@ returns-3 c = rw (c .before .enum-told3 .given .1) (c .all-feed .ensures)
 pub fields-spec : {M : Type 1} → statement M
 fields-spec =
     tie.close
-    (tie.spec
-    (λ c. search needs)
-    is-order-requires
-    (λ c. search needs)
-    is-result-requires
-    (λ c. search needs)
-    (λ c κs. search needs)
-    returns
-    returns-2
-    returns-3)
+    (tie.spec (λ c. search needs) is-order-requires (λ c. search needs) is-result-requires (λ c. search needs)
+    (λ c κs. search needs) returns returns-2 returns-3)

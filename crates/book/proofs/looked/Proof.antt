@@ -74,16 +74,5 @@ returns-2 c =
 pub looked-spec : {M : Type 1} → statement M
 looked-spec =
     tie.close
-    (tie.spec
-    (λ c κs. search needs)
-    (λ c κs. search needs)
-    (λ c κs. search needs)
-    finish-requires
-    (λ c. search needs)
-    (λ c. search needs)
-    returns
-    lookup-requires
-    finish-requires-2
-    (λ c. search needs)
-    (λ c. search needs)
-    returns-2)
+    (tie.spec (λ c κs. search needs) (λ c κs. search needs) (λ c κs. search needs) finish-requires (λ c. search needs)
+    (λ c. search needs) returns lookup-requires finish-requires-2 (λ c. search needs) (λ c. search needs) returns-2)

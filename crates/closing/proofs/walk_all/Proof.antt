@@ -44,15 +44,5 @@ returns c =
 pub walk-all-spec : {M : Type 1} → statement M
 walk-all-spec =
     tie.close
-    (tie.spec
-    Inv-loop
-    μ-loop
-    loop-holds
-    (λ c. search needs)
-    (λ c. search needs)
-    (λ c κs. search needs)
-    step-requires
-    (λ c. search needs)
-    (λ c. search needs)
-    loop-again
-    returns)
+    (tie.spec Inv-loop μ-loop loop-holds (λ c. search needs) (λ c. search needs) (λ c κs. search needs) step-requires
+    (λ c. search needs) (λ c. search needs) loop-again returns)

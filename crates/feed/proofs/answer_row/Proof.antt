@@ -7,10 +7,4 @@ returns : tie.Need-returns
 returns c = rw (c .nothing .ensures)
 
 pub answer-row-spec : {M : Type 1} → statement M
-answer-row-spec =
-    tie.close
-    (tie.spec
-    (λ c κs. search needs)
-    (λ c. search needs)
-    (λ c. search needs)
-    returns)
+answer-row-spec = tie.close (tie.spec (λ c κs. search needs) (λ c. search needs) (λ c. search needs) returns)

@@ -84,18 +84,6 @@ returns-2 c =
 pub feed-spec : {M : Type 1} → statement M
 feed-spec =
     tie.close
-    (tie.spec
-    submitted-requires
-    (λ c κs. search needs)
-    (λ c κs. search needs)
-    apply-all-requires
-    (λ c κs. search needs)
-    answer-row-requires
-    (λ c κs. search needs)
-    (λ c. search needs)
-    (λ c. search needs)
-    (λ c. search needs)
-    returns
-    (λ c. search needs)
-    (λ c. search needs)
-    returns-2)
+    (tie.spec submitted-requires (λ c κs. search needs) (λ c κs. search needs) apply-all-requires
+    (λ c κs. search needs) answer-row-requires (λ c κs. search needs) (λ c. search needs) (λ c. search needs)
+    (λ c. search needs) returns (λ c. search needs) (λ c. search needs) returns-2)

@@ -10,8 +10,4 @@ unfolding symbolOk
 fits-beside-requires c κs = (c .before .pre, refl)
 
 pub fits-spec : {M : Type 1} → statement M
-fits-spec =
-    tie.close
-    (tie.spec
-    fits-beside-requires
-    (λ c. search needs))
+fits-spec = tie.close (tie.spec fits-beside-requires (λ c. search needs))

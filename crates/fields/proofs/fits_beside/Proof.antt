@@ -7,9 +7,4 @@ returns : tie.Need-returns
 returns c = cc
 
 pub fits-beside-spec : {M : Type 1} → statement M
-fits-beside-spec =
-    tie.close
-    (tie.spec
-    (λ c κs. search needs)
-    (λ c κs. search needs)
-    returns)
+fits-beside-spec = tie.close (tie.spec (λ c κs. search needs) (λ c κs. search needs) returns)

@@ -11,10 +11,4 @@ returns c =
     sym (ap symbolOk (same-symbol _ _ (sym (c .before .same .ensures) ∙ c .if1 .taken)) ∙ c .before .before .pre)
 
 pub spelled-spec : {M : Type 1} → statement M
-spelled-spec =
-    tie.close
-    (tie.spec
-    (λ c κs. search needs)
-    returns
-    (λ c κs. search needs)
-    (λ c. search needs))
+spelled-spec = tie.close (tie.spec (λ c κs. search needs) returns (λ c κs. search needs) (λ c. search needs))

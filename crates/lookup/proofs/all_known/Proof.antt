@@ -32,13 +32,5 @@ returns c =
 pub all-known-spec : {M : Type 1} → statement M
 all-known-spec =
     tie.close
-    (tie.spec
-    Inv-loop
-    μ-loop
-    (λ c. search (needs, loops))
-    (λ c κs. search (needs, loops))
-    (λ c. search (needs, loops))
-    (λ c. search (needs, loops))
-    loop-again
-    returns
-    (λ c. search (needs, loops)))
+    (tie.spec Inv-loop μ-loop (λ c. search (needs, loops)) (λ c κs. search (needs, loops))
+    (λ c. search (needs, loops)) (λ c. search (needs, loops)) loop-again returns (λ c. search (needs, loops)))

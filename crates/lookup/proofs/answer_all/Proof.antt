@@ -47,14 +47,5 @@ returns c =
 pub answer-all-spec : {M : Type 1} → statement M
 answer-all-spec =
     tie.close
-    (tie.spec
-    Inv-loop
-    μ-loop
-    loop-holds
-    (λ c κs. search needs)
-    answer-one-requires
-    (λ c. search (needs, fills))
-    (λ c. search (needs, fills))
-    loop-again
-    same-length
-    returns)
+    (tie.spec Inv-loop μ-loop loop-holds (λ c κs. search needs) answer-one-requires (λ c. search (needs, fills))
+    (λ c. search (needs, fills)) loop-again same-length returns)

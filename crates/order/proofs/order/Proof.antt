@@ -72,19 +72,6 @@ returns-2 c =
 pub order-spec : {M : Type 1} → statement M
 order-spec =
     tie.close
-    (tie.spec
-    (λ c κs. search needs)
-    terms-of-requires
-    estimated-requires
-    (λ c κs. search needs)
-    (λ c κs. search needs)
-    post-requires
-    (λ c κs. search needs)
-    (λ c κs. search needs)
-    (λ c. search needs)
-    (λ c. search needs)
-    (λ c. search needs)
-    returns
-    (λ c. search needs)
-    (λ c. search needs)
-    returns-2)
+    (tie.spec (λ c κs. search needs) terms-of-requires estimated-requires (λ c κs. search needs)
+    (λ c κs. search needs) post-requires (λ c κs. search needs) (λ c κs. search needs) (λ c. search needs)
+    (λ c. search needs) (λ c. search needs) returns (λ c. search needs) (λ c. search needs) returns-2)

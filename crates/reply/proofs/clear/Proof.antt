@@ -28,13 +28,5 @@ returns c =
 pub clear-spec : {M : Type 1} → statement M
 clear-spec =
     tie.close
-    (tie.spec
-    Inv-loop
-    μ-loop
-    (λ c. (omega arith, (refl, refl)))
-    (λ c. omega arith)
-    (λ c. omega arith)
-    (λ c. simp length-set (omega arith))
-    loop-again
-    (λ c. c .before .loop .inv .1 .0)
-    returns)
+    (tie.spec Inv-loop μ-loop (λ c. (omega arith, (refl, refl))) (λ c. omega arith) (λ c. omega arith)
+    (λ c. simp length-set (omega arith)) loop-again (λ c. c .before .loop .inv .1 .0) returns)

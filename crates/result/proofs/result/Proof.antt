@@ -99,19 +99,6 @@ returns-2 c =
 pub result-spec : {M : Type 1} → statement M
 result-spec =
     tie.close
-    (tie.spec
-    (λ c κs. search needs)
-    (λ c κs. search needs)
-    lots-of-requires
-    reckoned-requires
-    judge-requires
-    (λ c κs. search needs)
-    post-requires
-    (λ c κs. search needs)
-    (λ c. search needs)
-    (λ c. search needs)
-    (λ c. search needs)
-    returns
-    (λ c. search needs)
-    (λ c. search needs)
-    returns-2)
+    (tie.spec (λ c κs. search needs) (λ c κs. search needs) lots-of-requires reckoned-requires judge-requires
+    (λ c κs. search needs) post-requires (λ c κs. search needs) (λ c. search needs) (λ c. search needs)
+    (λ c. search needs) returns (λ c. search needs) (λ c. search needs) returns-2)

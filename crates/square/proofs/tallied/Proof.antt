@@ -9,10 +9,4 @@ unfolding tallied
 returns c = cc
 
 pub tallied-spec : {M : Type 1} → statement M
-tallied-spec =
-    tie.close
-    (tie.spec
-    (λ c κs. search needs)
-    (λ c κs. search needs)
-    (λ c κs. search needs)
-    returns)
+tallied-spec = tie.close (tie.spec (λ c κs. search needs) (λ c κs. search needs) (λ c κs. search needs) returns)

@@ -28,14 +28,6 @@ pub trades-spec : {M : Type 1} → statement M
 unfolding count
 trades-spec =
     tie.close
-    (tie.spec
-    Inv-loop
-    μ-loop
-    (λ c. search (needs, loops))
-    (λ c κs. search (needs, loops))
-    (λ c κs. search (needs, loops))
-    (λ c. search (needs, loops))
-    (λ c. search (needs, loops))
-    (λ c. search (needs, loops))
-    loop-again
-    (λ c. search (needs, loops)))
+    (tie.spec Inv-loop μ-loop (λ c. search (needs, loops)) (λ c κs. search (needs, loops))
+    (λ c κs. search (needs, loops)) (λ c. search (needs, loops)) (λ c. search (needs, loops))
+    (λ c. search (needs, loops)) loop-again (λ c. search (needs, loops)))

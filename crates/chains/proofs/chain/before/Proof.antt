@@ -18,13 +18,6 @@ abbrev μ-loop : tie.MeasureT-loop
 pub before-spec : {M : Type 1} → statement M
 before-spec =
     tie.close
-    (tie.spec
-    Inv-loop
-    μ-loop
-    (λ c κs. search (needs, chains))
-    (λ c. search (needs, chains))
-    (λ c. search (needs, chains))
-    (λ c κs. search (needs, chains))
-    (λ c. search (needs, chains))
-    (λ c. search (needs, chains))
-    (λ c. search (needs, chains)))
+    (tie.spec Inv-loop μ-loop (λ c κs. search (needs, chains)) (λ c. search (needs, chains))
+    (λ c. search (needs, chains)) (λ c κs. search (needs, chains)) (λ c. search (needs, chains))
+    (λ c. search (needs, chains)) (λ c. search (needs, chains)))

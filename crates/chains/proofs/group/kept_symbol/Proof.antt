@@ -7,8 +7,4 @@ returns-2 : tie.Need-returns-2
 returns-2 c = cc
 
 pub kept-symbol-spec : {M : Type 1} → statement M
-kept-symbol-spec =
-    tie.close
-    (tie.spec
-    (λ c. search needs)
-    returns-2)
+kept-symbol-spec = tie.close (tie.spec (λ c. search needs) returns-2)

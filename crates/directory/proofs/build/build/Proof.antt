@@ -17,19 +17,8 @@ abbrev μ-loop : tie.MeasureT-loop
 pub build-spec : {M : Type 1} → statement M
 build-spec =
     tie.close
-    (tie.spec
-    Inv-loop
-    μ-loop
-    (λ c. search (needs, builds))
-    (λ c. search (needs, builds))
-    (λ c κs. search (needs, builds))
-    (λ c κs. search (needs, builds))
-    (λ c κs. search (needs, builds))
-    (λ c κs. search (needs, builds))
-    (λ c κs. search (needs, builds))
-    (λ c. search (needs, builds))
-    (λ c κs. search (needs, builds))
-    (λ c. search (needs, builds))
-    (λ c. search (needs, builds))
-    (λ c. search (needs, builds))
-    (λ c. search (needs, builds)))
+    (tie.spec Inv-loop μ-loop (λ c. search (needs, builds)) (λ c. search (needs, builds))
+    (λ c κs. search (needs, builds)) (λ c κs. search (needs, builds)) (λ c κs. search (needs, builds))
+    (λ c κs. search (needs, builds)) (λ c κs. search (needs, builds)) (λ c. search (needs, builds))
+    (λ c κs. search (needs, builds)) (λ c. search (needs, builds)) (λ c. search (needs, builds))
+    (λ c. search (needs, builds)) (λ c. search (needs, builds)))

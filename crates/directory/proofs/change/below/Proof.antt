@@ -14,17 +14,7 @@ abbrev μ-loop : tie.MeasureT-loop
 pub below-spec : {M : Type 1} → statement M
 below-spec =
     tie.close
-    (tie.spec
-    Inv-loop
-    μ-loop
-    (λ c. search (needs, downs))
-    (λ c. search (needs, downs))
-    (λ c κs. search (needs, downs))
-    (λ c. search (needs, downs))
-    (λ c. search (needs, downs))
-    (λ c. search (needs, downs))
-    (λ c. search (needs, downs))
-    (λ c. search (needs, downs))
-    (λ c. search (needs, downs))
-    (λ c. search (needs, downs))
-    (λ c. search (needs, downs)))
+    (tie.spec Inv-loop μ-loop (λ c. search (needs, downs)) (λ c. search (needs, downs))
+    (λ c κs. search (needs, downs)) (λ c. search (needs, downs)) (λ c. search (needs, downs))
+    (λ c. search (needs, downs)) (λ c. search (needs, downs)) (λ c. search (needs, downs))
+    (λ c. search (needs, downs)) (λ c. search (needs, downs)) (λ c. search (needs, downs)))

@@ -46,12 +46,5 @@ returns c =
 pub free-spec : {M : Type 1} → statement M
 free-spec =
     tie.close
-    (tie.spec
-    leave-requires
-    (λ c κs. search needs)
-    (λ c κs. search needs)
-    enter-free-requires
-    add-t18
-    (λ c. search needs)
-    (λ c. search needs)
-    returns)
+    (tie.spec leave-requires (λ c κs. search needs) (λ c κs. search needs) enter-free-requires add-t18
+    (λ c. search needs) (λ c. search needs) returns)

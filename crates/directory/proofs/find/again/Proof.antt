@@ -38,11 +38,4 @@ returns-2 c =
     from-next s k group (row .0) (c .before .before .before .next .ensures) (c .walk .ensures) ∙ rw of
 
 pub again-spec : {M : Type 1} → statement M
-again-spec =
-    tie.close
-    (tie.spec
-    (λ c κs. search needs)
-    returns
-    (λ c κs. search needs)
-    walk-requires
-    returns-2)
+again-spec = tie.close (tie.spec (λ c κs. search needs) returns (λ c κs. search needs) walk-requires returns-2)

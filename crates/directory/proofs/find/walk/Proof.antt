@@ -20,14 +20,7 @@ abbrev μ-loop : tie.MeasureT-loop
 pub walk-spec : {M : Type 1} → statement M
 walk-spec =
     tie.close
-    (tie.spec
-    Inv-loop
-    μ-loop
-    (λ c. search (needs, walks, key-grouped))
-    (λ c κs. search (needs, walks, key-grouped))
-    (λ c κs. search (needs, walks, key-grouped))
-    (λ c. search (needs, walks, key-grouped))
-    (λ c κs. search (needs, walks, key-grouped))
-    (λ c. search (needs, walks, key-grouped))
-    (λ c. search (needs, walks, key-grouped))
-    (λ c. search (needs, walks, key-grouped)))
+    (tie.spec Inv-loop μ-loop (λ c. search (needs, walks, key-grouped)) (λ c κs. search (needs, walks, key-grouped))
+    (λ c κs. search (needs, walks, key-grouped)) (λ c. search (needs, walks, key-grouped))
+    (λ c κs. search (needs, walks, key-grouped)) (λ c. search (needs, walks, key-grouped))
+    (λ c. search (needs, walks, key-grouped)) (λ c. search (needs, walks, key-grouped)))

@@ -9,8 +9,4 @@ returns : tie.Need-returns
 returns c = rw (c .same .ensures) (sym (by-holder _ _ _))
 
 pub of-holder-spec : {M : Type 1} → statement M
-of-holder-spec =
-    tie.close
-    (tie.spec
-    (λ c κs. search needs)
-    returns)
+of-holder-spec = tie.close (tie.spec (λ c κs. search needs) returns)

@@ -9,8 +9,4 @@ returns : tie.Need-returns
 returns c = rw (c .same .ensures) (sym (by-symbol _ _))
 
 pub of-symbol-spec : {M : Type 1} → statement M
-of-symbol-spec =
-    tie.close
-    (tie.spec
-    (λ c κs. search needs)
-    returns)
+of-symbol-spec = tie.close (tie.spec (λ c κs. search needs) returns)

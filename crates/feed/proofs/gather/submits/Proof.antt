@@ -8,9 +8,4 @@ returns : tie.Need-returns
 returns c = gathered (c .before .before .collect .ensures) (c .sort .ensures)
 
 pub submits-spec : {M : Type 1} → statement M
-submits-spec =
-    tie.close
-    (tie.spec
-    (λ c κs. search needs)
-    (λ c κs. search needs)
-    returns)
+submits-spec = tie.close (tie.spec (λ c κs. search needs) (λ c κs. search needs) returns)

@@ -54,15 +54,5 @@ returns c =
 pub submitted-spec : {M : Type 1} → statement M
 submitted-spec =
     tie.close
-    (tie.spec
-    Inv-loop
-    μ-loop
-    (λ c κs. search needs)
-    loop-holds
-    slice-aggregate-collect
-    collect-requires
-    add-sum
-    (λ c. search needs)
-    (λ c. search needs)
-    loop-again
-    returns)
+    (tie.spec Inv-loop μ-loop (λ c κs. search needs) loop-holds slice-aggregate-collect collect-requires add-sum
+    (λ c. search needs) (λ c. search needs) loop-again returns)

@@ -24,10 +24,5 @@ returns-2 c =
 pub first-hit-spec : {M : Type 1} → statement M
 first-hit-spec =
     tie.close
-    (tie.spec
-    (λ c κs. search needs)
-    (λ c κs. search needs)
-    (λ c κs. search needs)
-    (λ c κs. search needs)
-    returns
+    (tie.spec (λ c κs. search needs) (λ c κs. search needs) (λ c κs. search needs) (λ c κs. search needs) returns
     returns-2)

@@ -18,14 +18,6 @@ abbrev μ-loop : tie.MeasureT-loop
 pub hit-before-spec : {M : Type 1} → statement M
 hit-before-spec =
     tie.close
-    (tie.spec
-    Inv-loop
-    μ-loop
-    (λ c. search (needs, hitting))
-    (λ c κs. search (needs, hitting))
-    (λ c κs. search (needs, hitting))
-    (λ c. search (needs, hitting))
-    (λ c. search (needs, hitting))
-    (λ c. search (needs, hitting))
-    (λ c. search (needs, hitting))
-    (λ c. search (needs, hitting)))
+    (tie.spec Inv-loop μ-loop (λ c. search (needs, hitting)) (λ c κs. search (needs, hitting))
+    (λ c κs. search (needs, hitting)) (λ c. search (needs, hitting)) (λ c. search (needs, hitting))
+    (λ c. search (needs, hitting)) (λ c. search (needs, hitting)) (λ c. search (needs, hitting)))

@@ -9,8 +9,4 @@ unfolding reaches
 returns c = rw (c .same .ensures)
 
 pub hits-spec : {M : Type 1} → statement M
-hits-spec =
-    tie.close
-    (tie.spec
-    (λ c κs. search needs)
-    returns)
+hits-spec = tie.close (tie.spec (λ c κs. search needs) returns)

@@ -10,10 +10,4 @@ returns c =
     known-is _ _ _ (security .before .entry-at .ensures) (security .security .ensures) (c .places .ensures)
 
 pub known-spec : {M : Type 1} → statement M
-known-spec =
-    tie.close
-    (tie.spec
-    (λ c κs. search needs)
-    (λ c κs. search needs)
-    (λ c κs. search needs)
-    returns)
+known-spec = tie.close (tie.spec (λ c κs. search needs) (λ c κs. search needs) (λ c κs. search needs) returns)

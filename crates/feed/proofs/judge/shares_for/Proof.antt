@@ -25,13 +25,6 @@ pub shares-for-spec : {M : Type 1} → statement M
 unfolding sharesFor
 shares-for-spec =
     tie.close
-    (tie.spec
-    Inv-loop
-    μ-loop
-    (λ c. search (needs, loops))
-    (λ c κs. search (needs, loops))
-    add-sum
-    (λ c. search (needs, loops))
-    (λ c. search (needs, loops))
-    (λ c. search (needs, loops))
+    (tie.spec Inv-loop μ-loop (λ c. search (needs, loops)) (λ c κs. search (needs, loops)) add-sum
+    (λ c. search (needs, loops)) (λ c. search (needs, loops)) (λ c. search (needs, loops))
     (λ c. search (needs, loops)))

@@ -48,11 +48,5 @@ returns c =
 pub apply-spec : {M : Type 1} → statement M
 apply-spec =
     tie.close
-    (tie.spec
-    (λ c κs. search needs)
-    quote-requires
-    submits-requires
-    submit-all-requires
-    (λ c. search needs)
-    (λ c. search needs)
-    returns)
+    (tie.spec (λ c κs. search needs) quote-requires submits-requires submit-all-requires (λ c. search needs)
+    (λ c. search needs) returns)

@@ -45,15 +45,5 @@ returns c =
 pub apply-all-spec : {M : Type 1} → statement M
 apply-all-spec =
     tie.close
-    (tie.spec
-    Inv-loop
-    μ-loop
-    (λ c κs. search needs)
-    loop-holds
-    apply-requires
-    (λ c. search needs)
-    (λ c. search needs)
-    loop-again
-    (λ c. c .before .loop .inv .1 .0)
-    (λ c. c .before .loop .inv .1 .1)
-    returns)
+    (tie.spec Inv-loop μ-loop (λ c κs. search needs) loop-holds apply-requires (λ c. search needs) (λ c. search needs)
+    loop-again (λ c. c .before .loop .inv .1 .0) (λ c. c .before .loop .inv .1 .1) returns)

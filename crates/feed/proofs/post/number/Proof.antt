@@ -9,8 +9,4 @@ returns : tie.Need-returns
 returns c = ap (λ (r : Request). r .no) (c .before .request-at .ensures)
 
 pub number-spec : {M : Type 1} → statement M
-number-spec =
-    tie.close
-    (tie.spec
-    (λ c κs. search needs)
-    returns)
+number-spec = tie.close (tie.spec (λ c κs. search needs) returns)

@@ -52,11 +52,5 @@ returns c =
 pub quote-spec : {M : Type 1} → statement M
 quote-spec =
     tie.close
-    (tie.spec
-    security-requires
-    (λ c κs. search needs)
-    sum-requires
-    (λ c κs. search needs)
-    change-requires
-    (λ c. search needs)
-    returns)
+    (tie.spec security-requires (λ c κs. search needs) sum-requires (λ c κs. search needs) change-requires
+    (λ c. search needs) returns)

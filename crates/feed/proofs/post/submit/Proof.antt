@@ -55,13 +55,5 @@ returns c =
 pub submit-spec : {M : Type 1} → statement M
 submit-spec =
     tie.close
-    (tie.spec
-    (λ c κs. search needs)
-    add-requires
-    trade-requires
-    (λ c κs. search needs)
-    (λ c κs. search needs)
-    change-requires
-    (λ c. search needs)
-    (λ c. search needs)
-    returns)
+    (tie.spec (λ c κs. search needs) add-requires trade-requires (λ c κs. search needs) (λ c κs. search needs)
+    change-requires (λ c. search needs) (λ c. search needs) returns)

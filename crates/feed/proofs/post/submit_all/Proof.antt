@@ -61,17 +61,6 @@ returns c =
 pub submit-all-spec : {M : Type 1} → statement M
 submit-all-spec =
     tie.close
-    (tie.spec
-    Inv-loop
-    μ-loop
-    loop-holds
-    (λ c. search needs)
-    (λ c. search needs)
-    (λ c κs. search needs)
-    submit-requires
-    (λ c. search needs)
-    (λ c. search needs)
-    loop-again
-    (λ c. c .before .loop .inv .1 .0)
-    (λ c. c .before .loop .inv .1 .1)
-    returns)
+    (tie.spec Inv-loop μ-loop loop-holds (λ c. search needs) (λ c. search needs) (λ c κs. search needs)
+    submit-requires (λ c. search needs) (λ c. search needs) loop-again (λ c. c .before .loop .inv .1 .0)
+    (λ c. c .before .loop .inv .1 .1) returns)

@@ -54,16 +54,6 @@ returns c =
 pub sweep-spec : {M : Type 1} → statement M
 sweep-spec =
     tie.close
-    (tie.spec
-    Inv-loop
-    μ-loop
-    (λ c κs. search needs)
-    loop-holds
-    (λ c κs. search needs)
-    sweep-entry-requires
-    (λ c. search needs)
-    (λ c. search needs)
-    loop-again
-    (λ c. c .before .loop .inv .1 .1 .0)
-    (λ c. c .before .loop .inv .1 .1 .1)
-    returns)
+    (tie.spec Inv-loop μ-loop (λ c κs. search needs) loop-holds (λ c κs. search needs) sweep-entry-requires
+    (λ c. search needs) (λ c. search needs) loop-again (λ c. c .before .loop .inv .1 .1 .0)
+    (λ c. c .before .loop .inv .1 .1 .1) returns)

@@ -101,16 +101,6 @@ returns c =
 pub sweep-entry-spec : {M : Type 1} → statement M
 sweep-entry-spec =
     tie.close
-    (tie.spec
-    Inv-loop
-    μ-loop
-    (λ c κs. search needs)
-    first-request-requires
-    loop-holds
-    next-request-requires
-    sweep-one-requires
-    loop-less
-    loop-again
-    (λ c. c .before .loop .inv .1 .1 .0)
-    (λ c. c .before .loop .inv .1 .1 .1)
+    (tie.spec Inv-loop μ-loop (λ c κs. search needs) first-request-requires loop-holds next-request-requires
+    sweep-one-requires loop-less loop-again (λ c. c .before .loop .inv .1 .1 .0) (λ c. c .before .loop .inv .1 .1 .1)
     returns)

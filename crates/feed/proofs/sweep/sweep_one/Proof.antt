@@ -43,12 +43,5 @@ returns-2 c =
 pub sweep-one-spec : {M : Type 1} → statement M
 sweep-one-spec =
     tie.close
-    (tie.spec
-    (λ c κs. search needs)
-    (λ c κs. search needs)
-    free-requires
-    (λ c. search needs)
-    (λ c. search needs)
-    returns
-    (λ c. search needs)
-    returns-2)
+    (tie.spec (λ c κs. search needs) (λ c κs. search needs) free-requires (λ c. search needs) (λ c. search needs)
+    returns (λ c. search needs) returns-2)

@@ -13,10 +13,4 @@ returns c =
     cc
 
 pub lot-spec : {M : Type 1} → statement M
-lot-spec =
-    tie.close
-    (tie.spec
-    (λ c κs. search needs)
-    (λ c. search needs)
-    (λ c κs. search needs)
-    returns)
+lot-spec = tie.close (tie.spec (λ c κs. search needs) (λ c. search needs) (λ c κs. search needs) returns)

@@ -14,10 +14,4 @@ returns c =
     cc
 
 pub lot-history-spec : {M : Type 1} → statement M
-lot-history-spec =
-    tie.close
-    (tie.spec
-    (λ c κs. search needs)
-    (λ c κs. search needs)
-    (λ c κs. search needs)
-    returns)
+lot-history-spec = tie.close (tie.spec (λ c κs. search needs) (λ c κs. search needs) (λ c κs. search needs) returns)

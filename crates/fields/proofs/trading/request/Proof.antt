@@ -13,8 +13,4 @@ returns c =
     cc
 
 pub request-spec : {M : Type 1} → statement M
-request-spec =
-    tie.close
-    (tie.spec
-    (λ c κs. search needs)
-    returns)
+request-spec = tie.close (tie.spec (λ c κs. search needs) returns)

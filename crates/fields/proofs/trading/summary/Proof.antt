@@ -13,8 +13,4 @@ returns c =
     cc
 
 pub summary-spec : {M : Type 1} → statement M
-summary-spec =
-    tie.close
-    (tie.spec
-    (λ c κs. search needs)
-    returns)
+summary-spec = tie.close (tie.spec (λ c κs. search needs) returns)

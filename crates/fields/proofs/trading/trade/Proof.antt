@@ -14,9 +14,4 @@ returns c =
     cc
 
 pub trade-spec : {M : Type 1} → statement M
-trade-spec =
-    tie.close
-    (tie.spec
-    (λ c κs. search needs)
-    (λ c κs. search needs)
-    returns)
+trade-spec = tie.close (tie.spec (λ c κs. search needs) (λ c κs. search needs) returns)

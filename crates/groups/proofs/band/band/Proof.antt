@@ -21,16 +21,9 @@ abbrev μ-loop : tie.MeasureT-loop
 pub band-spec : {M : Type 1} → statement M
 band-spec =
     tie.close
-    (tie.spec
-    Inv-loop
-    μ-loop
-    (λ c κs. search (needs, walks, band-grouped))
-    (λ c κs. search (needs, walks, band-grouped))
-    (λ c. search (needs, walks, band-grouped))
-    (λ c κs. search (needs, walks, band-grouped))
-    (λ c κs. search (needs, walks, band-grouped))
-    (λ c. search (needs, walks, band-grouped))
-    (λ c κs. search (needs, walks, band-grouped))
-    (λ c. search (needs, walks, band-grouped))
-    (λ c. search (needs, walks, band-grouped))
+    (tie.spec Inv-loop μ-loop (λ c κs. search (needs, walks, band-grouped))
+    (λ c κs. search (needs, walks, band-grouped)) (λ c. search (needs, walks, band-grouped))
+    (λ c κs. search (needs, walks, band-grouped)) (λ c κs. search (needs, walks, band-grouped))
+    (λ c. search (needs, walks, band-grouped)) (λ c κs. search (needs, walks, band-grouped))
+    (λ c. search (needs, walks, band-grouped)) (λ c. search (needs, walks, band-grouped))
     (λ c. search (needs, walks, band-grouped)))

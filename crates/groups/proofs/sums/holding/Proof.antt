@@ -62,18 +62,8 @@ returns c =
 pub holding-spec : {M : Type 1} → statement M
 holding-spec =
     tie.close
-    (tie.spec
-    Inv-loop
-    μ-loop
-    (λ c κs. search (needs, walks, fits-there))
-    (λ c κs. search (needs, walks, fits-there))
-    loop-holds
-    (λ c κs. search (needs, walks, fits-there))
-    (λ c κs. search (needs, walks, fits-there))
-    (λ c. search (needs, walks, fits-there))
-    (λ c. search (needs, walks, fits-there))
-    (λ c. search (needs, walks, fits-there))
-    (λ c κs. search (needs, walks, fits-there))
-    (λ c. search (needs, walks, fits-there))
-    loop-again
-    returns)
+    (tie.spec Inv-loop μ-loop (λ c κs. search (needs, walks, fits-there)) (λ c κs. search (needs, walks, fits-there))
+    loop-holds (λ c κs. search (needs, walks, fits-there)) (λ c κs. search (needs, walks, fits-there))
+    (λ c. search (needs, walks, fits-there)) (λ c. search (needs, walks, fits-there))
+    (λ c. search (needs, walks, fits-there)) (λ c κs. search (needs, walks, fits-there))
+    (λ c. search (needs, walks, fits-there)) loop-again returns)

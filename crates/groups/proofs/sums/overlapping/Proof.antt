@@ -22,17 +22,9 @@ pub overlapping-spec : {M : Type 1} → statement M
 unfolding count
 overlapping-spec =
     tie.close
-    (tie.spec
-    Inv-loop
-    μ-loop
-    (λ c κs. search (needs, walks, bands-counted, same-bit))
-    (λ c κs. search (needs, walks, bands-counted, same-bit))
-    (λ c. search (needs, walks, bands-counted, same-bit))
-    (λ c κs. search (needs, walks, bands-counted, same-bit))
-    (λ c κs. search (needs, walks, bands-counted, same-bit))
-    (λ c κs. search (needs, walks, bands-counted, same-bit))
-    (λ c. search (needs, walks, bands-counted, same-bit))
-    (λ c κs. search (needs, walks, bands-counted, same-bit))
-    (λ c. search (needs, walks, bands-counted, same-bit))
-    (λ c. search (needs, walks, bands-counted, same-bit))
-    (λ c. search (needs, walks, bands-counted, same-bit)))
+    (tie.spec Inv-loop μ-loop (λ c κs. search (needs, walks, bands-counted, same-bit))
+    (λ c κs. search (needs, walks, bands-counted, same-bit)) (λ c. search (needs, walks, bands-counted, same-bit))
+    (λ c κs. search (needs, walks, bands-counted, same-bit)) (λ c κs. search (needs, walks, bands-counted, same-bit))
+    (λ c κs. search (needs, walks, bands-counted, same-bit)) (λ c. search (needs, walks, bands-counted, same-bit))
+    (λ c κs. search (needs, walks, bands-counted, same-bit)) (λ c. search (needs, walks, bands-counted, same-bit))
+    (λ c. search (needs, walks, bands-counted, same-bit)) (λ c. search (needs, walks, bands-counted, same-bit)))

@@ -21,16 +21,9 @@ pub rates-spec : {M : Type 1} → statement M
 unfolding ratesOf
 rates-spec =
     tie.close
-    (tie.spec
-    Inv-loop
-    μ-loop
-    (λ c κs. search (needs, walks, rates-counted))
-    (λ c κs. search (needs, walks, rates-counted))
-    (λ c. search (needs, walks, rates-counted))
-    (λ c κs. search (needs, walks, rates-counted))
-    (λ c κs. search (needs, walks, rates-counted))
-    (λ c. search (needs, walks, rates-counted))
-    (λ c κs. search (needs, walks, rates-counted))
-    (λ c. search (needs, walks, rates-counted))
-    (λ c. search (needs, walks, rates-counted))
+    (tie.spec Inv-loop μ-loop (λ c κs. search (needs, walks, rates-counted))
+    (λ c κs. search (needs, walks, rates-counted)) (λ c. search (needs, walks, rates-counted))
+    (λ c κs. search (needs, walks, rates-counted)) (λ c κs. search (needs, walks, rates-counted))
+    (λ c. search (needs, walks, rates-counted)) (λ c κs. search (needs, walks, rates-counted))
+    (λ c. search (needs, walks, rates-counted)) (λ c. search (needs, walks, rates-counted))
     (λ c. search (needs, walks, rates-counted)))

@@ -37,11 +37,5 @@ returns c = (rw (c .nearest .ensures .0, c .before .before .plain .ensures .0), 
 pub commission-spec : {M : Type 1} → statement M
 commission-spec =
     tie.close
-    (tie.spec
-    (λ c. search needs)
-    (λ c κs. search needs)
-    mul-parts
-    (λ c. search needs)
-    mul-parts-2
-    nearest-requires
+    (tie.spec (λ c. search needs) (λ c κs. search needs) mul-parts (λ c. search needs) mul-parts-2 nearest-requires
     returns)

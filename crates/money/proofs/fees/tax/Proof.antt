@@ -51,13 +51,5 @@ returns-2 c = (rw (sym (c .before .taxable .ensures) ∙ c .if1 .left), up-to (f
 pub tax-spec : {M : Type 1} → statement M
 tax-spec =
     tie.close
-    (tie.spec
-    (λ c κs. search needs)
-    (λ c κs. search needs)
-    (λ c κs. search needs)
-    sub-gain
-    (λ c. search needs)
-    mul-nearest
-    nearest-requires
-    returns
-    returns-2)
+    (tie.spec (λ c κs. search needs) (λ c κs. search needs) (λ c κs. search needs) sub-gain (λ c. search needs)
+    mul-nearest nearest-requires returns returns-2)

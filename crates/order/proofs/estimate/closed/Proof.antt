@@ -45,10 +45,4 @@ returns c =
 
 pub closed-spec : {M : Type 1} → statement M
 closed-spec =
-    tie.close
-    (tie.spec
-    (λ c κs. search needs)
-    (λ c κs. search needs)
-    (λ c κs. search needs)
-    walked-requires
-    returns)
+    tie.close (tie.spec (λ c κs. search needs) (λ c κs. search needs) (λ c κs. search needs) walked-requires returns)

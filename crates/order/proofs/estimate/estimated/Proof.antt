@@ -33,10 +33,5 @@ returns c =
 pub estimated-spec : {M : Type 1} → statement M
 estimated-spec =
     tie.close
-    (tie.spec
-    (λ c κs. search needs)
-    closed-requires
-    (λ c κs. search needs)
-    (λ c κs. search needs)
-    commission-requires
+    (tie.spec (λ c κs. search needs) closed-requires (λ c κs. search needs) (λ c κs. search needs) commission-requires
     returns)

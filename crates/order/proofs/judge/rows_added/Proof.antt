@@ -6,6 +6,5 @@ use Rattle.order.proofs.judge.rows_added.Tie as tie
 pub rows-added-spec : {M : Type 1} → statement M
 rows-added-spec =
     tie.close
-    (tie.spec
-    (λ c. two-added (c .before .before .args .input) (c .if1 .taken))
+    (tie.spec (λ c. two-added (c .before .before .args .input) (c .if1 .taken))
     (λ c. three-added (c .before .before .args .input) (c .if1 .left)))

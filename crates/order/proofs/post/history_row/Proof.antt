@@ -9,9 +9,4 @@ unfolding historyOf
 returns c = rw (c .row .ensures, c .before .first-status .ensures)
 
 pub history-row-spec : {M : Type 1} → statement M
-history-row-spec =
-    tie.close
-    (tie.spec
-    (λ c κs. search needs)
-    (λ c κs. search needs)
-    returns)
+history-row-spec = tie.close (tie.spec (λ c κs. search needs) (λ c κs. search needs) returns)

@@ -127,18 +127,6 @@ returns-3 c =
 pub post-spec : {M : Type 1} → statement M
 post-spec =
     tie.close
-    (tie.spec
-    (λ c κs. search needs)
-    returns
-    (λ c κs. search needs)
-    (λ c κs. search needs)
-    add-requires
-    add-requires-2
-    (λ c. search needs)
-    (λ c. search needs)
-    returns-2
-    (λ c κs. search needs)
-    add-requires-3
-    same-length-3
-    same-length-4
-    returns-3)
+    (tie.spec (λ c κs. search needs) returns (λ c κs. search needs) (λ c κs. search needs) add-requires add-requires-2
+    (λ c. search needs) (λ c. search needs) returns-2 (λ c κs. search needs) add-requires-3 same-length-3
+    same-length-4 returns-3)

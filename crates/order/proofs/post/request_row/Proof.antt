@@ -9,8 +9,4 @@ unfolding requestOf
 returns c = c .row .ensures
 
 pub request-row-spec : {M : Type 1} → statement M
-request-row-spec =
-    tie.close
-    (tie.spec
-    (λ c κs. search needs)
-    returns)
+request-row-spec = tie.close (tie.spec (λ c κs. search needs) returns)

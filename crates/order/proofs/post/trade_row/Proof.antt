@@ -9,9 +9,4 @@ unfolding tradeOf
 returns c = rw (c .row .ensures, c .before .before .first-status .ensures)
 
 pub trade-row-spec : {M : Type 1} → statement M
-trade-row-spec =
-    tie.close
-    (tie.spec
-    (λ c κs. search needs)
-    (λ c κs. search needs)
-    returns)
+trade-row-spec = tie.close (tie.spec (λ c κs. search needs) (λ c κs. search needs) returns)

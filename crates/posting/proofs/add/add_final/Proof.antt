@@ -92,17 +92,6 @@ returns-2 c =
 pub add-final-spec : {M : Type 1} → statement M
 add-final-spec =
     tie.close
-    (tie.spec
-    (λ c κs. search needs)
-    (λ c κs. search needs)
-    add-requires
-    add-requires-2
-    (λ c κs. search needs)
-    (λ c κs. search needs)
-    add-requires-3
-    same-length
-    same-length-2
-    returns
-    (λ c. search needs)
-    (λ c. search needs)
+    (tie.spec (λ c κs. search needs) (λ c κs. search needs) add-requires add-requires-2 (λ c κs. search needs)
+    (λ c κs. search needs) add-requires-3 same-length same-length-2 returns (λ c. search needs) (λ c. search needs)
     returns-2)

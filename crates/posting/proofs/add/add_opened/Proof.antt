@@ -69,14 +69,5 @@ returns-2 c =
 pub add-opened-spec : {M : Type 1} → statement M
 add-opened-spec =
     tie.close
-    (tie.spec
-    (λ c κs. search needs)
-    returns
-    (λ c κs. search needs)
-    (λ c κs. search needs)
-    add-requires
-    (λ c κs. search needs)
-    add-requires-2
-    (λ c. search needs)
-    (λ c. search needs)
-    returns-2)
+    (tie.spec (λ c κs. search needs) returns (λ c κs. search needs) (λ c κs. search needs) add-requires
+    (λ c κs. search needs) add-requires-2 (λ c. search needs) (λ c. search needs) returns-2)

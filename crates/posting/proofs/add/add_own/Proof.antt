@@ -41,10 +41,5 @@ returns c =
 pub add-own-spec : {M : Type 1} → statement M
 add-own-spec =
     tie.close
-    (tie.spec
-    add-opened-requires
-    add-summary-requires
-    add-final-requires
-    (λ c. search needs)
-    (λ c. search needs)
+    (tie.spec add-opened-requires add-summary-requires add-final-requires (λ c. search needs) (λ c. search needs)
     returns)

@@ -32,11 +32,4 @@ returns-2 c =
 
 pub add-summary-spec : {M : Type 1} → statement M
 add-summary-spec =
-    tie.close
-    (tie.spec
-    returns
-    (λ c κs. search needs)
-    add-requires
-    (λ c. search needs)
-    (λ c. search needs)
-    returns-2)
+    tie.close (tie.spec returns (λ c κs. search needs) add-requires (λ c. search needs) (λ c. search needs) returns-2)

@@ -33,10 +33,4 @@ returns-2 c =
 pub change-account-spec : {M : Type 1} → statement M
 change-account-spec =
     tie.close
-    (tie.spec
-    (λ c κs. search needs)
-    (λ c κs. search needs)
-    change-requires
-    (λ c. search needs)
-    returns
-    returns-2)
+    (tie.spec (λ c κs. search needs) (λ c κs. search needs) change-requires (λ c. search needs) returns returns-2)

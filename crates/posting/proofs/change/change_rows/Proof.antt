@@ -69,12 +69,5 @@ returns c =
 pub change-rows-spec : {M : Type 1} → statement M
 change-rows-spec =
     tie.close
-    (tie.spec
-    change-summary-requires
-    change-account-requires
-    (λ c κs. search needs)
-    change-requires
-    broker-after-requires
-    change-requires-2
-    same-length
-    returns)
+    (tie.spec change-summary-requires change-account-requires (λ c κs. search needs) change-requires
+    broker-after-requires change-requires-2 same-length returns)

@@ -36,10 +36,4 @@ returns-2 c =
 pub change-summary-spec : {M : Type 1} → statement M
 change-summary-spec =
     tie.close
-    (tie.spec
-    (λ c κs. search needs)
-    (λ c κs. search needs)
-    change-requires
-    (λ c. search needs)
-    returns
-    returns-2)
+    (tie.spec (λ c κs. search needs) (λ c κs. search needs) change-requires (λ c. search needs) returns returns-2)

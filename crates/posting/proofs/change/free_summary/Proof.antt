@@ -30,10 +30,4 @@ returns-2 c =
 pub free-summary-spec : {M : Type 1} → statement M
 free-summary-spec =
     tie.close
-    (tie.spec
-    (λ c κs. search needs)
-    free-requires
-    (λ c. search needs)
-    (λ c. search needs)
-    returns
-    returns-2)
+    (tie.spec (λ c κs. search needs) free-requires (λ c. search needs) (λ c. search needs) returns returns-2)

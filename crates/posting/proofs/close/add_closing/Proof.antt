@@ -25,10 +25,5 @@ returns c =
 pub add-closing-spec : {M : Type 1} → statement M
 add-closing-spec =
     tie.close
-    (tie.spec
-    (λ c κs. search needs)
-    (λ c κs. search needs)
-    add-requires
-    (λ c. search needs)
-    (λ c. search needs)
+    (tie.spec (λ c κs. search needs) (λ c κs. search needs) add-requires (λ c. search needs) (λ c. search needs)
     returns)

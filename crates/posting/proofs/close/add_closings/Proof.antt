@@ -151,27 +151,7 @@ returns-3 c = close-end (c .before .loop .inv .0) (c .loop-test .left)
 pub add-closings-spec : {M : Type 1} → statement M
 add-closings-spec =
     tie.close
-    (tie.spec
-    Inv-loop
-    μ-loop
-    loop-holds
-    (λ c κs. search needs)
-    (λ c. search needs)
-    (λ c. search needs)
-    returns
-    (λ c. search needs)
-    (λ c. search needs)
-    (λ c κs. search needs)
-    left-requires
-    add-closing-requires
-    (λ c κs. search needs)
-    same-length-3
-    same-length-4
-    returns-2
-    step-requires
-    add-i
-    loop-less
-    loop-again
-    (λ c. search needs)
-    (λ c. search needs)
-    returns-3)
+    (tie.spec Inv-loop μ-loop loop-holds (λ c κs. search needs) (λ c. search needs) (λ c. search needs) returns
+    (λ c. search needs) (λ c. search needs) (λ c κs. search needs) left-requires add-closing-requires
+    (λ c κs. search needs) same-length-3 same-length-4 returns-2 step-requires add-i loop-less loop-again
+    (λ c. search needs) (λ c. search needs) returns-3)

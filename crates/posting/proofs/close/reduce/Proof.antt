@@ -58,15 +58,6 @@ returns-2 c =
 pub reduce-spec : {M : Type 1} → statement M
 reduce-spec =
     tie.close
-    (tie.spec
-    (λ c κs. search needs)
-    returns
-    mul-wide
-    shared-slice-read-wide
-    (λ c κs. search needs)
-    (λ c κs. search needs)
-    (λ c κs. search needs)
-    (λ c κs. search needs)
-    change-requires
-    (λ c. search needs)
+    (tie.spec (λ c κs. search needs) returns mul-wide shared-slice-read-wide (λ c κs. search needs)
+    (λ c κs. search needs) (λ c κs. search needs) (λ c κs. search needs) change-requires (λ c. search needs)
     returns-2)

@@ -140,14 +140,5 @@ returns c =
 pub post-spec : {M : Type 1} → statement M
 post-spec =
     tie.close
-    (tie.spec
-    start-requires
-    add-closings-requires
-    add-own-requires
-    reduce-requires
-    change-rows-requires
-    free-lots-requires
-    free-summary-requires
-    same-length
-    same-length-2
-    returns)
+    (tie.spec start-requires add-closings-requires add-own-requires reduce-requires change-rows-requires
+    free-lots-requires free-summary-requires same-length same-length-2 returns)

@@ -16,24 +16,10 @@ abbrev μ-loop : tie.MeasureT-loop
 pub chain-spec : {M : Type 1} → statement M
 chain-spec =
     tie.close
-    (tie.spec
-    Inv-loop
-    μ-loop
-    (λ c. search (needs, chains))
-    (λ c. search (needs, chains))
-    (λ c κs. search (needs, chains))
-    (λ c. search (needs, chains))
-    (λ c. search (needs, chains))
-    (λ c κs. search (needs, chains))
-    (λ c. search (needs, chains))
-    (λ c. search (needs, chains))
-    (λ c. search (needs, chains))
-    (λ c. search (needs, chains))
-    (λ c. search (needs, chains))
-    (λ c κs. search (needs, chains))
-    (λ c. search (needs, chains))
-    (λ c. search (needs, chains))
-    (λ c. search (needs, chains))
-    (λ c. search (needs, chains))
-    (λ c. search (needs, chains))
+    (tie.spec Inv-loop μ-loop (λ c. search (needs, chains)) (λ c. search (needs, chains))
+    (λ c κs. search (needs, chains)) (λ c. search (needs, chains)) (λ c. search (needs, chains))
+    (λ c κs. search (needs, chains)) (λ c. search (needs, chains)) (λ c. search (needs, chains))
+    (λ c. search (needs, chains)) (λ c. search (needs, chains)) (λ c. search (needs, chains))
+    (λ c κs. search (needs, chains)) (λ c. search (needs, chains)) (λ c. search (needs, chains))
+    (λ c. search (needs, chains)) (λ c. search (needs, chains)) (λ c. search (needs, chains))
     (λ c. search (needs, chains)))

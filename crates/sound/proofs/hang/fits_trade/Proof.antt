@@ -16,13 +16,6 @@ returns-5 c =
 pub fits-trade-spec : {M : Type 1} → statement M
 fits-trade-spec =
     tie.close
-    (tie.spec
-    (λ c κs. search needs)
-    (λ c κs. search needs)
-    (λ c κs. search needs)
-    (λ c κs. search needs)
-    (λ c. search (needs, history-fits))
-    (λ c. search (needs, lot-fits))
-    (λ c. search (needs, settlement-fits))
-    (λ c. search (needs, cash-fits))
-    returns-5)
+    (tie.spec (λ c κs. search needs) (λ c κs. search needs) (λ c κs. search needs) (λ c κs. search needs)
+    (λ c. search (needs, history-fits)) (λ c. search (needs, lot-fits)) (λ c. search (needs, settlement-fits))
+    (λ c. search (needs, cash-fits)) returns-5)

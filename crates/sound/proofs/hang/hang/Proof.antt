@@ -30,17 +30,7 @@ returns-2 c = says-yes (hang-all (c .before .loop .inv .0) (c .loop-test .left))
 pub hang-spec : {M : Type 1} → statement M
 hang-spec =
     tie.close
-    (tie.spec
-    Inv-loop
-    μ-loop
-    (λ c κs. search (needs, chains, hangings))
-    (λ c. search (needs, chains, hangings))
-    (λ c κs. search (needs, chains, hangings))
-    (λ c. search (needs, chains, hangings))
-    returns
-    slice-write-marks
-    (λ c κs. search (needs, chains, hangings))
-    (λ c. search (needs, chains, hangings))
-    (λ c. search (needs, chains, hangings))
-    (λ c. search (needs, chains, hangings))
-    returns-2)
+    (tie.spec Inv-loop μ-loop (λ c κs. search (needs, chains, hangings)) (λ c. search (needs, chains, hangings))
+    (λ c κs. search (needs, chains, hangings)) (λ c. search (needs, chains, hangings)) returns slice-write-marks
+    (λ c κs. search (needs, chains, hangings)) (λ c. search (needs, chains, hangings))
+    (λ c. search (needs, chains, hangings)) (λ c. search (needs, chains, hangings)) returns-2)

@@ -23,14 +23,6 @@ hung-at-requires c κs =
 pub hung-spec : {M : Type 1} → statement M
 hung-spec =
     tie.close
-    (tie.spec
-    Inv-loop
-    μ-loop
-    (λ c κs. search (needs, chains, kinds))
-    (λ c. search (needs, chains, kinds))
-    hung-at-requires
-    (λ c κs. search (needs, chains, kinds))
-    (λ c. search (needs, chains, kinds))
-    (λ c. search (needs, chains, kinds))
-    (λ c. search (needs, chains, kinds))
-    (λ c. search (needs, chains, kinds)))
+    (tie.spec Inv-loop μ-loop (λ c κs. search (needs, chains, kinds)) (λ c. search (needs, chains, kinds))
+    hung-at-requires (λ c κs. search (needs, chains, kinds)) (λ c. search (needs, chains, kinds))
+    (λ c. search (needs, chains, kinds)) (λ c. search (needs, chains, kinds)) (λ c. search (needs, chains, kinds)))

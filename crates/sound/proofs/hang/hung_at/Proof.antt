@@ -48,18 +48,6 @@ returns c =
 pub hung-at-spec : {M : Type 1} → statement M
 hung-at-spec =
     tie.close
-    (tie.spec
-    (λ c κs. search needs)
-    (λ c. search needs)
-    shared-slice-read-request
-    (λ c κs. search needs)
-    (λ c. search needs)
-    shared-slice-read-history
-    (λ c. search needs)
-    shared-slice-read-settlement
-    (λ c. search needs)
-    shared-slice-read-cash
-    (λ c κs. search needs)
-    (λ c κs. search needs)
-    (λ c κs. search needs)
-    returns)
+    (tie.spec (λ c κs. search needs) (λ c. search needs) shared-slice-read-request (λ c κs. search needs)
+    (λ c. search needs) shared-slice-read-history (λ c. search needs) shared-slice-read-settlement (λ c. search needs)
+    shared-slice-read-cash (λ c κs. search needs) (λ c κs. search needs) (λ c κs. search needs) returns)

@@ -167,21 +167,6 @@ returns-5 c =
 pub slot-at-spec : {M : Type 1} → statement M
 slot-at-spec =
     tie.close
-    (tie.spec
-    (λ c κs. search needs)
-    (λ c κs. search needs)
-    returns
-    (λ c κs. search needs)
-    (λ c κs. search needs)
-    fits-beside-requires
-    returns-2
-    (λ c κs. search needs)
-    (λ c κs. search needs)
-    fits-trade-requires
-    returns-3
-    mul-s
-    offset-requires
-    add-s
-    shared-slice-read-if4
-    returns-4
-    returns-5)
+    (tie.spec (λ c κs. search needs) (λ c κs. search needs) returns (λ c κs. search needs) (λ c κs. search needs)
+    fits-beside-requires returns-2 (λ c κs. search needs) (λ c κs. search needs) fits-trade-requires returns-3 mul-s
+    offset-requires add-s shared-slice-read-if4 returns-4 returns-5)

@@ -7,9 +7,4 @@ returns : tie.Need-returns
 returns c = rw (c .overlapping .ensures, c .before .row-at .ensures)
 
 pub apart-spec : {M : Type 1} → statement M
-apart-spec =
-    tie.close
-    (tie.spec
-    (λ c κs. search needs)
-    (λ c κs. search needs)
-    returns)
+apart-spec = tie.close (tie.spec (λ c κs. search needs) (λ c κs. search needs) returns)

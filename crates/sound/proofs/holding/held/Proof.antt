@@ -11,9 +11,4 @@ returns c =
     rw (c .same .ensures, key-there _ _ (at-summary .summary .ensures), entry .pre .1)
 
 pub held-spec : {M : Type 1} → statement M
-held-spec =
-    tie.close
-    (tie.spec
-    (λ c κs. search needs)
-    (λ c κs. search needs)
-    returns)
+held-spec = tie.close (tie.spec (λ c κs. search needs) (λ c κs. search needs) returns)

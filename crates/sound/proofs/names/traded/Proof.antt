@@ -9,9 +9,4 @@ returns c =
     rw (key-there _ _ (c .before .account .ensures), key-there _ _ (c .security .ensures))
 
 pub traded-spec : {M : Type 1} → statement M
-traded-spec =
-    tie.close
-    (tie.spec
-    (λ c κs. search needs)
-    (λ c κs. search needs)
-    returns)
+traded-spec = tie.close (tie.spec (λ c κs. search needs) (λ c κs. search needs) returns)

@@ -16,14 +16,7 @@ abbrev μ-loop : tie.MeasureT-loop
 pub fit-spec : {M : Type 1} → statement M
 fit-spec =
     tie.close
-    (tie.spec
-    Inv-loop
-    μ-loop
-    (λ c κs. search (needs, chains, kinds))
-    (λ c. search (needs, chains, kinds))
-    (λ c κs. search (needs, chains, kinds))
-    (λ c κs. search (needs, chains, kinds))
-    (λ c. search (needs, chains, kinds))
-    (λ c. search (needs, chains, kinds))
-    (λ c. search (needs, chains, kinds))
+    (tie.spec Inv-loop μ-loop (λ c κs. search (needs, chains, kinds)) (λ c. search (needs, chains, kinds))
+    (λ c κs. search (needs, chains, kinds)) (λ c κs. search (needs, chains, kinds))
+    (λ c. search (needs, chains, kinds)) (λ c. search (needs, chains, kinds)) (λ c. search (needs, chains, kinds))
     (λ c. search (needs, chains, kinds)))

@@ -9,9 +9,4 @@ returns : tie.Need-returns
 returns c = c .fits2 .ensures ∙ ap fits (c .before .part .ensures .1)
 
 pub fit-at-spec : {M : Type 1} → statement M
-fit-at-spec =
-    tie.close
-    (tie.spec
-    (λ c κs. search needs)
-    (λ c κs. search needs)
-    returns)
+fit-at-spec = tie.close (tie.spec (λ c κs. search needs) (λ c κs. search needs) returns)

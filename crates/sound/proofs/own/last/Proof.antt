@@ -36,12 +36,4 @@ returns-3 c =
     last-kept _ _ (entry .pre .1 .0) (at-row-at .row-at .ensures) (at-if2 .if2 .left) (c .again .ensures)
 
 pub last-spec : {M : Type 1} → statement M
-last-spec =
-    tie.close
-    (tie.spec
-    next-requires
-    returns
-    (λ c κs. search needs)
-    returns-2
-    again-requires
-    returns-3)
+last-spec = tie.close (tie.spec next-requires returns (λ c κs. search needs) returns-2 again-requires returns-3)

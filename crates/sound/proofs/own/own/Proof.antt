@@ -22,14 +22,6 @@ own-at-requires c κs =
 pub own-spec : {M : Type 1} → statement M
 own-spec =
     tie.close
-    (tie.spec
-    Inv-loop
-    μ-loop
-    (λ c κs. search (needs, chains, kinds))
-    (λ c. search (needs, chains, kinds))
-    own-at-requires
-    (λ c κs. search (needs, chains, kinds))
-    (λ c. search (needs, chains, kinds))
-    (λ c. search (needs, chains, kinds))
-    (λ c. search (needs, chains, kinds))
-    (λ c. search (needs, chains, kinds)))
+    (tie.spec Inv-loop μ-loop (λ c κs. search (needs, chains, kinds)) (λ c. search (needs, chains, kinds))
+    own-at-requires (λ c κs. search (needs, chains, kinds)) (λ c. search (needs, chains, kinds))
+    (λ c. search (needs, chains, kinds)) (λ c. search (needs, chains, kinds)) (λ c. search (needs, chains, kinds)))

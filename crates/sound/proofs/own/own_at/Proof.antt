@@ -23,9 +23,4 @@ returns : tie.Need-returns
 returns c = told-last _ _ (c .before .last .ensures) (c .told .ensures)
 
 pub own-at-spec : {M : Type 1} → statement M
-own-at-spec =
-    tie.close
-    (tie.spec
-    last-requires
-    told-requires
-    returns)
+own-at-spec = tie.close (tie.spec last-requires told-requires returns)

@@ -47,13 +47,5 @@ returns-2 c =
 pub standing-spec : {M : Type 1} → statement M
 standing-spec =
     tie.close
-    (tie.spec
-    Inv-loop
-    μ-loop
-    loop-holds
-    own-requires
-    (λ c. search needs)
-    (λ c. search needs)
-    loop-again
-    returns
+    (tie.spec Inv-loop μ-loop loop-holds own-requires (λ c. search needs) (λ c. search needs) loop-again returns
     returns-2)

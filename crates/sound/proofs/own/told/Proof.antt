@@ -36,11 +36,4 @@ returns-3 c = rw (c .before .fit-at .ensures, c .right .ensures)
 pub told-spec : {M : Type 1} → statement M
 told-spec =
     tie.close
-    (tie.spec
-    trade-right-requires
-    returns
-    kept-requires
-    returns-2
-    (λ c κs. search needs)
-    right-requires
-    returns-3)
+    (tie.spec trade-right-requires returns kept-requires returns-2 (λ c κs. search needs) right-requires returns-3)

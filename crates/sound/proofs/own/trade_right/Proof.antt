@@ -41,12 +41,5 @@ returns-2 c =
 pub trade-right-spec : {M : Type 1} → statement M
 trade-right-spec =
     tie.close
-    (tie.spec
-    (λ c κs. search needs)
-    (λ c κs. search needs)
-    (λ c κs. search needs)
-    returns
-    (λ c κs. search needs)
-    fits-beside-requires
-    (λ c κs. search needs)
-    returns-2)
+    (tie.spec (λ c κs. search needs) (λ c κs. search needs) (λ c κs. search needs) returns (λ c κs. search needs)
+    fits-beside-requires (λ c κs. search needs) returns-2)

@@ -7,9 +7,4 @@ returns : tie.Need-returns
 returns c = rw (c .agrees .ensures, c .before .broker-of .ensures)
 
 pub asked-spec : {M : Type 1} → statement M
-asked-spec =
-    tie.close
-    (tie.spec
-    (λ c κs. search needs)
-    (λ c κs. search needs)
-    returns)
+asked-spec = tie.close (tie.spec (λ c κs. search needs) (λ c κs. search needs) returns)

@@ -11,9 +11,4 @@ returns c =
     ap (λ (r : Row). r .n1) (key-row _ _ (c .before .account .ensures) (c .row-at .ensures))
 
 pub broker-of-spec : {M : Type 1} → statement M
-broker-of-spec =
-    tie.close
-    (tie.spec
-    (λ c κs. search needs)
-    (λ c κs. search needs)
-    returns)
+broker-of-spec = tie.close (tie.spec (λ c κs. search needs) (λ c κs. search needs) returns)

@@ -11,9 +11,4 @@ returns c =
     rw (key-row _ _ (at-settlement .settlement .ensures) (at-row-at .row-at .ensures))
 
 pub due-spec : {M : Type 1} → statement M
-due-spec =
-    tie.close
-    (tie.spec
-    (λ c κs. search needs)
-    (λ c κs. search needs)
-    returns)
+due-spec = tie.close (tie.spec (λ c κs. search needs) (λ c κs. search needs) returns)

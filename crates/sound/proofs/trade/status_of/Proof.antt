@@ -11,9 +11,4 @@ returns c =
     ap (λ (r : Row). r .status) (key-row _ _ (c .before .trade .ensures) (c .row-at .ensures))
 
 pub status-of-spec : {M : Type 1} → statement M
-status-of-spec =
-    tie.close
-    (tie.spec
-    (λ c κs. search needs)
-    (λ c κs. search needs)
-    returns)
+status-of-spec = tie.close (tie.spec (λ c κs. search needs) (λ c κs. search needs) returns)

@@ -42,12 +42,4 @@ returns-3 c =
     says-all (c .hung .ensures) (sound-all well (said (at-own .own .ensures) (at-if2 .if2 .left)) fit)
 
 pub closing-spec : {M : Type 1} → statement M
-closing-spec =
-    tie.close
-    (tie.spec
-    (λ c κs. search needs)
-    returns
-    own-requires
-    returns-2
-    hung-requires
-    returns-3)
+closing-spec = tie.close (tie.spec (λ c κs. search needs) returns own-requires returns-2 hung-requires returns-3)

@@ -102,22 +102,6 @@ returns-6 c =
 pub hanging-spec : {M : Type 1} → statement M
 hanging-spec =
     tie.close
-    (tie.spec
-    hang-requires
-    (λ c. search needs)
-    returns
-    hang-requires-2
-    (λ c. search needs)
-    returns-2
-    hang-requires-3
-    (λ c. search needs)
-    returns-3
-    own-requires
-    (λ c. search needs)
-    returns-4
-    hang-requires-4
-    (λ c. search needs)
-    returns-5
-    hang-requires-5
-    (λ c. search needs)
-    returns-6)
+    (tie.spec hang-requires (λ c. search needs) returns hang-requires-2 (λ c. search needs) returns-2 hang-requires-3
+    (λ c. search needs) returns-3 own-requires (λ c. search needs) returns-4 hang-requires-4 (λ c. search needs)
+    returns-5 hang-requires-5 (λ c. search needs) returns-6)

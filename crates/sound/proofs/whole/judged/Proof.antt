@@ -55,18 +55,6 @@ returns-4 c = c .closing .ensures
 pub judged-spec : {M : Type 1} → statement M
 judged-spec =
     tie.close
-    (tie.spec
-    chain-requires
-    (λ c. search needs)
-    returns
-    standing-requires
-    (λ c. search needs)
-    returns-2
-    hanging-requires
-    (λ c. search needs)
-    (λ c. search needs)
-    returns-3
-    closing-requires
-    (λ c. search needs)
-    (λ c. search needs)
-    returns-4)
+    (tie.spec chain-requires (λ c. search needs) returns standing-requires (λ c. search needs) returns-2
+    hanging-requires (λ c. search needs) (λ c. search needs) returns-3 closing-requires (λ c. search needs)
+    (λ c. search needs) returns-4)

@@ -21,10 +21,5 @@ large-requires c κs = c .before .before .build .ensures .listed
 pub large-book-spec : {M : Type 1} → statement M
 large-book-spec =
     tie.close
-    (tie.spec
-    narrow-requires
-    (λ c. search needs)
-    build-requires
-    (λ c. search needs)
-    large-requires
+    (tie.spec narrow-requires (λ c. search needs) build-requires (λ c. search needs) large-requires
     (λ c. search needs))

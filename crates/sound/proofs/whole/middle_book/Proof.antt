@@ -22,10 +22,5 @@ middle-requires c κs =
 pub middle-book-spec : {M : Type 1} → statement M
 middle-book-spec =
     tie.close
-    (tie.spec
-    narrow-requires
-    (λ c. search needs)
-    build-requires
-    (λ c. search needs)
-    middle-requires
+    (tie.spec narrow-requires (λ c. search needs) build-requires (λ c. search needs) middle-requires
     (λ c. search needs))

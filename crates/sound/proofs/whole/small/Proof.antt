@@ -21,10 +21,4 @@ judged-requires c κs =
 
 pub small-spec : {M : Type 1} → statement M
 small-spec =
-    tie.close
-    (tie.spec
-    narrow-requires
-    (λ c. search needs)
-    (λ c. search needs)
-    judged-requires
-    (λ c. search needs))
+    tie.close (tie.spec narrow-requires (λ c. search needs) (λ c. search needs) judged-requires (λ c. search needs))

@@ -22,10 +22,5 @@ small-requires c κs =
 pub small-book-spec : {M : Type 1} → statement M
 small-book-spec =
     tie.close
-    (tie.spec
-    narrow-requires
-    (λ c. search needs)
-    build-requires
-    (λ c. search needs)
-    small-requires
+    (tie.spec narrow-requires (λ c. search needs) build-requires (λ c. search needs) small-requires
     (λ c. search needs))

@@ -26,11 +26,4 @@ returns-3 c =
     unsound-book _ _ (at-whole .whole .ensures) (at-if1 .if1 .left) (at-sound .sound .ensures) (c .if2 .left)
 
 pub status-spec : {M : Type 1} → statement M
-status-spec =
-    tie.close
-    (tie.spec
-    (λ c κs. search needs)
-    returns
-    sound-requires
-    returns-2
-    returns-3)
+status-spec = tie.close (tie.spec (λ c κs. search needs) returns sound-requires returns-2 returns-3)

@@ -15,16 +15,6 @@ abbrev μ-loop : tie.MeasureT-loop
 pub put-spec : {M : Type 1} → statement M
 put-spec =
     tie.close
-    (tie.spec
-    Inv-loop
-    μ-loop
-    (λ c. search (needs, writes))
-    (λ c. search needs)
-    (λ c. search needs)
-    (λ c κs. search needs)
-    (λ c. search needs)
-    (λ c. search needs)
-    (λ c. search (needs, writes))
-    (λ c. search needs)
-    (λ c. search needs)
-    (λ c. search (needs, writes)))
+    (tie.spec Inv-loop μ-loop (λ c. search (needs, writes)) (λ c. search needs) (λ c. search needs)
+    (λ c κs. search needs) (λ c. search needs) (λ c. search needs) (λ c. search (needs, writes)) (λ c. search needs)
+    (λ c. search needs) (λ c. search (needs, writes)))

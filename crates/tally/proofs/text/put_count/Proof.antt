@@ -30,11 +30,5 @@ returns c =
 pub put-count-spec : {M : Type 1} → statement M
 put-count-spec =
     tie.close
-    (tie.spec
-    (λ c κs. search needs)
-    (λ c κs. search needs)
-    (λ c. search needs)
-    (λ c. search needs)
-    put-requires
-    (λ c. search needs)
-    returns)
+    (tie.spec (λ c κs. search needs) (λ c κs. search needs) (λ c. search needs) (λ c. search needs) put-requires
+    (λ c. search needs) returns)

@@ -25,10 +25,5 @@ returns c =
 pub left-spec : {M : Type 1} → statement M
 left-spec =
     tie.close
-    (tie.spec
-    (λ c κs. search needs)
-    (λ c κs. search needs)
-    (λ c κs. search needs)
-    sub-of
-    (λ c κs. search needs)
+    (tie.spec (λ c κs. search needs) (λ c κs. search needs) (λ c κs. search needs) sub-of (λ c κs. search needs)
     returns)

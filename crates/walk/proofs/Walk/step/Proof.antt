@@ -80,12 +80,5 @@ returns c =
 pub step-spec : {M : Type 1} → statement M
 step-spec =
     tie.close
-    (tie.spec
-    (λ c κs. search needs)
-    less-requires
-    (λ c κs. search needs)
-    with-requires
-    (λ c κs. search needs)
-    with-requires-2
-    (λ c κs. search needs)
-    returns)
+    (tie.spec (λ c κs. search needs) less-requires (λ c κs. search needs) with-requires (λ c κs. search needs)
+    with-requires-2 (λ c κs. search needs) returns)

@@ -9,9 +9,4 @@ unfolding lotHistoryRow
 returns c = cc
 
 pub row-spec : {M : Type 1} → statement M
-row-spec =
-    tie.close
-    (tie.spec
-    (λ c κs. search needs)
-    (λ c κs. search needs)
-    returns)
+row-spec = tie.close (tie.spec (λ c κs. search needs) (λ c κs. search needs) returns)
