@@ -9,9 +9,6 @@ use record::codes::Kind;
 use record::row::Row;
 use record::symbol::Symbol;
 
-mod standing;
-mod trading;
-
 // A symbol that is spelled right.
 struct Spelt {}
 

@@ -2,7 +2,7 @@
 use mathlib.Core.Path.{refl, _∙_}
 use Rattle.laws.specs.Numbers.{missed}
 use Rattle.rules.specs.Rules.{as-kind, lotShape, no-kind, requestShape, summaryShape, tradeShape}
-use Rattle.fields.specs.Unspelt.{with-symbol}
+use Rattle.trading.specs.Unspelt.{with-symbol}
 use borrow.Author.Needs.{needs}
 use Rattle.fields.proofs.row_fits.Statement.{statement}
 use Rattle.fields.proofs.row_fits.Tie as tie
