@@ -14,10 +14,4 @@ pub mod Run
 pub mod OnRows
 pub mod OnBytes
 pub mod Proof
-pub mod Witness
 pub mod AnyRule
-pub mod Pair
-pub mod Counter
-pub mod Needed
-pub mod InTurn
-pub mod NotSaid

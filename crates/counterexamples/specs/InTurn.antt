@@ -16,9 +16,9 @@ use Rattle.model.specs.Call.{Promise, resultCall}
 use Rattle.model.specs.Evaluate.{resultOpened}
 use Rattle.model.specs.Rows.{rows, sameRow}
 use Rattle.model.specs.Status.{number}
-use Rattle.reorder.specs.Pair.{area, history, one, other, their-orders, theirs}
+use Rattle.witness.specs.Pair.{area, history, one, other, their-orders, theirs}
 use Rattle.reorder.specs.Statement.{OfTheProgram, Ran, SameSeen, Seen, TwoOrders, UnhinderedRun, lastBook}
-use Rattle.reorder.specs.Witness.{book}
+use Rattle.witness.specs.Witness.{book}
 
 -- a word for "these calls were made in turn"
 abbrev pub Word : Type 1

@@ -16,10 +16,10 @@ use Rattle.model.specs.Status.{isDone}
 use Rattle.model.specs.Call.{Reply}
 use Rattle.model.specs.Evaluate.{resultOpened}
 use Rattle.model.specs.Rows.{rows, sameRow}
-use Rattle.reorder.specs.Pair.{answered, apart, area, differ, ended, history, no-places, one, order-one}
-use Rattle.reorder.specs.Pair.{order-other, other, pass₁, pass₂, their-orders, theirs}
+use Rattle.witness.specs.Pair.{answered, apart, area, differ, ended, history, no-places, one, order-one}
+use Rattle.witness.specs.Pair.{order-other, other, pass₁, pass₂, their-orders, theirs}
 use Rattle.reorder.specs.Statement.{TwoRuns, accountOf, ending, replies, replyTo}
-use Rattle.reorder.specs.Witness.{book, fine, two-runs, unhindered}
+use Rattle.witness.specs.Witness.{book, fine, two-runs, unhindered}
 
 -- ---- "the same rows, each at the same place"
 abbrev pub SamePlaces : Type 0

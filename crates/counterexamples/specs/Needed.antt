@@ -23,10 +23,10 @@ use Rattle.model.specs.Evaluate.{resultOpened}
 use Rattle.model.specs.Rows.{recordSize}
 use Rattle.model.specs.Status.{number}
 use Rattle.kept.specs.Calls.{SoundBytes}
-use Rattle.reorder.specs.Pair.{answered, apart, area, differ, numbered, one, order-one, order-other}
-use Rattle.reorder.specs.Pair.{no-places, other, pass₁, pass₂, resultOf, theirs, two-accounts}
+use Rattle.witness.specs.Pair.{answered, apart, area, differ, numbered, one, order-one, order-other}
+use Rattle.witness.specs.Pair.{no-places, other, pass₁, pass₂, resultOf, theirs, two-accounts}
 use Rattle.reorder.specs.Statement.{Order, SameEnd, TwoRuns, accountOf, ownPlaces, replies, rightLengths}
-use Rattle.reorder.specs.Witness.{book, fine, none-is, two-runs}
+use Rattle.witness.specs.Witness.{book, fine, none-is, two-runs}
 
 -- ---- what is asked beside a sound book and two orders of the list's places
 pub data Asked : Type 0 where

@@ -21,8 +21,8 @@ use Rattle.model.specs.Edit.{_≔_, new}
 use Rattle.model.specs.Evaluate.{resultOpened}
 use Rattle.model.specs.Rows.{rows}
 use Rattle.model.specs.Status.{number}
 use Rattle.reorder.specs.Statement.{Order, TwoOrders, accountOf, ownPlaces}
-use Rattle.reorder.specs.Witness.{book, two-runs}
+use Rattle.witness.specs.Witness.{book, two-runs}
 
 abbrev pub resultOf : ℕ → ℕ → List ℕ
 resultOf number price = encode (new (kind ≔ kindResult ∷ id ≔ number ∷ n1 ≔ price ∷ when ≔ 1_000 ∷ []))

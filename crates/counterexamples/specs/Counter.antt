@@ -28,10 +28,10 @@ use Rattle.model.specs.declared.Status.the-variants.{Done}
 use Rattle.model.specs.Result.{View, checks, figures, posting, result, view, withBroker}
 use Rattle.model.specs.Rows.{bytes, found, is, rows, sameRow}
 use Rattle.model.specs.Sample.{abc}
 use Rattle.reorder.specs.AnyRule.{Demand3Of, Rule, SameEndOf, endingOf, repliesOf}
-use Rattle.reorder.specs.Pair.{answered, apart, area, differ, ended, one, other, pass₁, pass₂}
-use Rattle.reorder.specs.Pair.{their-orders, theirs}
-use Rattle.reorder.specs.Witness.{book, unhindered}
+use Rattle.witness.specs.Pair.{answered, apart, area, differ, ended, one, other, pass₁, pass₂}
+use Rattle.witness.specs.Pair.{their-orders, theirs}
+use Rattle.witness.specs.Witness.{book, unhindered}
 
 -- ---- the rule, changed in what an accepted result leaves
 abbrev accepted : (Reply → Reply) → Rule

@@ -1,0 +1,4 @@
+pub mod Counter
+pub mod Needed
+pub mod NotSaid
+pub mod InTurn

@@ -1,0 +1,2 @@
+pub mod Witness
+pub mod Pair
