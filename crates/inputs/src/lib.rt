@@ -11,6 +11,7 @@ use kinds::inputs::OrderInput;
 use kinds::inputs::ResultInput;
 use record::row::Grid;
 use record::row::Row;
+use rules::limited::in_limits;
 use rules::obey::obeys;
 use shelf::place::row_at;
 
@@ -26,16 +27,20 @@ fn result(r: Row) -> bool
     obeys(r, ResultInput::RULE)
 }
 
+// Of a list of up to twenty records each is checked against its limits alone, which the compiler folds into the tests.
 fn feed(r: Row) -> bool
     ensures { λ b. ⌜ b ≡ feedInput r ⌝ }
 {
-    obeys(r, FeedInput::RULE)
+    let rule = FeedInput::RULE;
+    let symbol = r.symbol;
+    in_limits(r, rule.limits) & symbol.ok()
 }
 
 fn lookup(r: Row) -> bool
     ensures { λ b. ⌜ b ≡ lookupInput r ⌝ }
 {
-    obeys(r, LookupInput::RULE)
+    let rule = LookupInput::RULE;
+    in_limits(r, rule.limits)
 }
 
 pub fn is_order(part: &[u8]) -> bool
