@@ -2,7 +2,7 @@
 -- requests are due, and each volume grows by the shares of the entries on its symbol. Assumes nothing.
 use mathlib.Core.Path.{_≡_, refl, sym, ap, _∙_}
 use mathlib.Core.Bool.{Bool, true, false, cond, _&&_, _||_}
-use mathlib.Core.List.{List}
+use mathlib.Core.List.{List, [], _∷_}
 use Prim.Native.Nat.{ℕ, suc, _+_, _-_, _*_, _/_, _%_, _≤_, _<_}
 use native.Mathlib.Numerals.{add-one}
 use native.Mathlib.Omega.{arith}
@@ -10,7 +10,7 @@ use lib.Dec.{eqb, leb, ltb}
 use lib.ListN.{length, take}
 use lib.Seq.{slice, slice-cons, slice-empty}
 use borrow.Author.Tests.{le-leb, leb-true, lt-leb}
-use Rattle.laws.specs.Search.{count, every, place, run}
+use Rattle.laws.specs.Search.{count, every, place, run, total}
 use Rattle.laws.specs.Tests.{and-right, one-truth}
 use Rattle.record.specs.Symbol.{sameSymbol}
 use Rattle.record.specs.declared.row.Row.{Row}
@@ -39,6 +39,22 @@ use Rattle.feed.specs.Due.{trades-due}
 -- the volume of the entry's security stays in its range, with the shares of all entries on the symbol
 unfoldable pub volumeFits : List Row → List Row → Row → Bool
 volumeFits rs es e = leb (found (aSecurity (e .symbol)) rs .m1 + sharesFor (e .symbol) es) (volume .high)
+
+-- the shares of all entries; those on one symbol are no more
+unfoldable pub sharesIn : List Row → ℕ
+sharesIn es = total (λ (e : Row). e .n2) es
+
+pub shares-most : (y : Symbol) (es : List Row) → sharesFor y es ≤ sharesIn es
+unfolding sharesFor sharesIn total
+shares-most y [] = omega arith
+shares-most y (e ∷ es) =
+    let more = shares-most y es in
+    let one = counted (sameSymbol (e .symbol) y) (e .n2) in
+    omega arith
+  where
+    counted : (b : Bool) (n : ℕ) → cond b n 0 ≤ n
+    counted true n = omega arith
+    counted false n = omega arith
 
 abbrev pub allKnown : List Row → List Row → Bool
 allKnown rs es = every (λ (e : Row). there (aSecurity (e .symbol)) rs) es
@@ -129,6 +145,15 @@ module _ (b input : List ℕ) (i : ℕ) {u : FeedInput} (a : u ≡ feedInputOf (
       (one-truth (leb m (volume .high - s)) (leb (m + s) (volume .high))
       (λ t. let l = leb-true m (volume .high - s) t in le-leb (m + s) (volume .high) (omega arith))
       (λ t. let l = leb-true (m + s) (volume .high) t in le-leb m (volume .high - s) (omega arith)))
+
+  pub volume-under : {s x : ℕ} {r : Row} → s ≡ sharesIn (rows input)
+      → x ≡ place (hasKey (aSecurity (u .symbol))) (rows b) → r ≡ rowAt b x → s ≤ volume .high → r .m1 ≤ volume .high - s
+      → true ≡ volumeFits (rows b) (rows input) e
+  unfolding volumeFits
+  volume-under {s} {x} {r} f p q h l =
+      let most : sharesFor (u .symbol) (rows input) ≤ s = rw f (shares-most (u .symbol) (rows input)) in
+      rw (← on, ← key-row (aSecurity (u .symbol)) b p q)
+      (sym (le-leb (r .m1 + sharesFor (u .symbol) (rows input)) (volume .high) (omega arith)))
 
   pub volume-out : {s : ℕ} → s ≡ sharesFor (u .symbol) (rows input) → volume .high < s
       → false ≡ volumeFits (rows b) (rows input) e

@@ -6,6 +6,7 @@ ghost use lib.ListN.{length, take};
 ghost use Rattle.laws.specs.Search.{count, every};
 ghost use Rattle.record.specs.Symbol.{sameSymbol};
 ghost use Rattle.kinds.specs.Inputs.{feedInputOf};
+ghost use Rattle.rules.specs.Ranges.{volume};
 ghost use Rattle.model.specs.Call.{mostInputs};
 ghost use Rattle.model.specs.Rows.{rows, there, wholeRecords};
 ghost use Rattle.model.specs.Names.{aSecurity};
@@ -17,7 +18,7 @@ ghost use Rattle.shelf.specs.Rows.{rowAt};
 ghost use Rattle.directory.specs.Directory.{Directory};
 ghost use Rattle.directory.specs.Listed.{Listed, places};
 ghost use Rattle.feed.specs.Hits.{anyReaches, due, firstHit, reaches};
-ghost use Rattle.feed.specs.Judge.{allKnown, volumeFits};
+ghost use Rattle.feed.specs.Judge.{allKnown, sharesIn, volumeFits};
 use directory::build::places;
 use directory::totals::Totals;
 use directory::typed::security;
@@ -133,17 +134,44 @@ fn shares_for(input: &[u8], symbol: Symbol) -> u64
     sum
 }
 
-// The volume of the security of the entry at a place stays in its range.
-fn volume_fits(book: &[u8], dir: &[u16], input: &[u8], i: usize) -> bool
+// The shares of the entry at a place.
+fn shares_of(input: &[u8], i: usize) -> u64
+    ensures { λ r. ⌜ (r ≡ rowAt (now (input .entry)) i .n2) × (r ≤ 4294967295) ⌝ }
+{
+    row_at(input, i).n2 as u64
+}
+
+// The shares of all entries.
+fn shares_in(input: &[u8]) -> u64
+    requires { ⌜ wholeRecords mostInputs (length (now input)) ≡ true ⌝ }
+    ensures { λ r. ⌜ (r ≡ sharesIn (rows (now (input .entry)))) × (r ≤ volume .high) ⌝ }
+{
+    let n = input.len() / Grid::SIZE;
+    let mut sum: u64 = 0;
+    let mut i = 0;
+    while i < n {
+        sum += shares_of(input, i);
+        i += 1;
+    }
+    sum
+}
+
+// The volume of the security of the entry at a place stays in its range. Those on its symbol are summed only where the
+// shares of all entries might be too many.
+fn volume_fits(book: &[u8], dir: &[u16], input: &[u8], all: u64, i: usize) -> bool
     requires { ⌜ Listed (now book) (now dir) ⌝ }
     requires { ⌜ wholeRecords mostInputs (length (now input)) ≡ true ⌝ }
+    requires { ⌜ (all ≡ sharesIn (rows (now input))) × (all ≤ volume .high) ⌝ }
     ensures { λ b.
         let entries = now (input .entry) in
         ⌜ b ≡ volumeFits (rows (now (book .entry))) (rows entries) (rowAt entries i) ⌝ }
 {
     let symbol = entry_at(input, i).symbol;
-    let more = shares_for(input, symbol);
     let security = row_at(book, security(book, dir, symbol));
+    if security.m1 <= Ranges::VOLUME_MOST - all {
+        return true;
+    }
+    let more = shares_for(input, symbol);
     if more <= Ranges::VOLUME_MOST {
         return security.m1 <= Ranges::VOLUME_MOST - more;
     }
@@ -157,10 +185,11 @@ fn volumes_fit(book: &[u8], dir: &[u16], input: &[u8]) -> bool
         let entries = rows (now (input .entry)) in
         ⌜ b ≡ every (volumeFits (rows (now (book .entry))) entries) entries ⌝ }
 {
+    let all = shares_in(input);
     let n = input.len() / Grid::SIZE;
     let mut i = 0;
     while i < n {
-        if volume_fits(book, dir, input, i) {
+        if volume_fits(book, dir, input, all, i) {
             i += 1;
         } else {
             return false;

@@ -10,15 +10,15 @@ use Rattle.feed.proofs.judge.volumes_fit.Statement.{statement}
 use Rattle.feed.proofs.judge.volumes_fit.Tie as tie
 
 abbrev Inv-loop : tie.InvT-loop
-Inv-loop book steady input n i₀ i =
+Inv-loop book dir input all n i₀ i =
     Checked (volumeFits (rows book) (rows input)) input (every (volumeFits (rows book) (rows input)) (rows input)) i
 
 abbrev μ-loop : tie.MeasureT-loop
-μ-loop book steady input n i₀ i = n - i
+μ-loop book dir input all n i₀ i = n - i
 
 pub volumes-fit-spec : {M : Type 1} → statement M
 volumes-fit-spec =
     tie.close
-    (tie.spec Inv-loop μ-loop (λ c. search (needs, loops)) (λ c κs. search (needs, loops))
+    (tie.spec Inv-loop μ-loop (λ c κs. search needs) (λ c. search (needs, loops)) (λ c κs. search (needs, loops))
     (λ c. search (needs, loops)) (λ c. search (needs, loops)) (λ c. search (needs, loops))
     (λ c. search (needs, loops)) (λ c. search (needs, loops)))
