@@ -4,13 +4,13 @@ use mathlib.Core.Bool.{Bool, true, false, not, _&&_}
 use mathlib.Core.List.{List, [], _∷_}
 use Rattle.laws.specs.Search.{every}
 use Rattle.laws.specs.Tests.{and-true}
-use Rattle.record.specs.Codes.{kindBand, kindCash, kindCustomer, kindLot, kindLotHistory, kindSettlement}
-use Rattle.record.specs.Codes.{kindSummary, kindTrade}
+use Rattle.record.specs.Codes.{kindBand, kindCash, kindCustomer, kindLot, kindLotHistory, kindSettlement, kindSummary}
+use Rattle.record.specs.Codes.{kindTrade}
 use Rattle.record.specs.declared.row.Row.{Row}
-use Rattle.model.specs.Sound.{bandApart, cashRight, each, historyRight, namesKnown, ratesFit, requestRight}
-use Rattle.model.specs.Sound.{s1, s2, s3, s4, s5, s6, s7, s9, s10, settled, settlementRight, sound}
-use Rattle.model.specs.Sound.{tradesDone}
-use Rattle.sound.specs.OneSide.{holdingKept, holdings-kept, lotKept, summaryKept}
+use Rattle.model.specs.Sound.{bandApart, cashRight, each, historyRight, namesKnown, ratesFit, requestRight, s1, s2}
+use Rattle.model.specs.Sound.{s3, s4, s5, s6, s7, s9, s10, settled, settlementRight, sound, tradesDone}
+use Rattle.sound.specs.OneSide.{holdingKept, holdings-kept}
+use Rattle.clauses.specs.Kept.{lotKept, summaryKept}
 
 -- S4 to S10 of a row, each for the rows of its kind; S8 as `OneSide` has it
 unfoldable pub kindRight : List Row → Row → Bool

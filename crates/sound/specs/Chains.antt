@@ -2,7 +2,7 @@
 -- keeps. Assumes nothing.
 use mathlib.Core.Path.{_≡_, refl, sym, ap, subst, _∙_}
 use mathlib.Core.Bool.{Bool, true, false, not, _&&_, _||_, false≢true}
-use mathlib.Core.List.{List, []}
+use mathlib.Core.List.{List}
 use Prim.Native.Nat.{ℕ, _+_, _-_, _/_, _≤_, _<_}
 use native.Mathlib.Omega.{arith}
 use lib.Dec.{eqb, ltb}
@@ -21,7 +21,9 @@ use Rattle.model.specs.Sound.{each, s1, s2, sound}
 use Rattle.facts.specs.Rows.{length-rows}
 use Rattle.shelf.specs.Rows.{rowAt}
 use Rattle.sound.specs.Distinct.{lastAt, unique-last}
-use Rattle.sound.specs.Hung.{firstWell, hangs, hung, hungWell, ownWell, rowWell}
+use Rattle.sound.specs.Hung.{firstWell, hung, hungWell, rowWell}
+use Rattle.clauses.specs.Hung.{hangs}
+use Rattle.clauses.specs.Own.{ownWell}
 use Rattle.sound.specs.Says.{refuted, says-no, says-yes}
 use Rattle.sound.specs.Well.{sound-by-well}
 

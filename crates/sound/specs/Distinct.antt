@@ -8,7 +8,8 @@ use native.Mathlib.Numerals.{add-one}
 use native.Mathlib.Omega.{arith}
 use lib.Dec.{eqb, leb, ltb}
 use lib.ListN.{length, drop, length-drop}
-use borrow.Author.Tests.{eqb-true, eqb-false, eq-eqb, ne-eqb, le-leb, lt-leb, leb-true, leb-false, ltb-true, ltb-false}
+use borrow.Author.Tests.{eqb-true, eqb-false, eq-eqb, ne-eqb, le-leb, lt-leb, leb-true, leb-false, ltb-true}
+use borrow.Author.Tests.{ltb-false}
 use Rattle.laws.specs.Search.{count, every, means-every, place, seek, total}
 use Rattle.laws.specs.Tests.{and-both, and-left, and-right, one-truth, or-either, or-else}
 use Rattle.laws.specs.Walk.{from, from-clear, from-holds, from-low, left-next, left-none}

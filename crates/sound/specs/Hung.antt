@@ -1,103 +1,18 @@
 -- The rows that hang on a trade (request, trade history, lot, settlement, cash) are decided at their trade, and a trade
--- by how many of each hang on it: the rules of a row in the form in which the code decides them. Assumes nothing.
-use mathlib.Core.Path.{_≡_, refl, sym, ap, _∙_}
-use mathlib.Core.Bool.{Bool, true, not, _&&_, _||_}
-use mathlib.Core.List.{List, [], _∷_}
-use Prim.Native.Nat.{ℕ, _+_, _*_, _≤_}
+-- by how many of each hang on it. Assumes nothing.
+use mathlib.Core.Bool.{Bool, not, _&&_, _||_}
+use mathlib.Core.List.{List}
+use Prim.Native.Nat.{ℕ, _+_, _*_}
 use lib.Dec.{eqb, leb}
-use lib.ListN.{getD, List·getD-eq-default}
 use Rattle.laws.specs.Search.{bit, count, place}
-use Rattle.record.specs.Codes.{completed, kindCash, kindLot, kindRequest, kindSettlement, kindTrade}
-use Rattle.record.specs.Codes.{kindTradeHistory, pending, tlb}
-use Rattle.rules.specs.Key.{among}
+use Rattle.record.specs.Codes.{completed, kindTrade, pending, tlb}
 use Rattle.record.specs.declared.row.Row.{Row}
 use Rattle.model.specs.Flags.{cash}
-use Rattle.model.specs.Names.{aCash, aHistory, aRequest, aTrade, anAccount}
+use Rattle.model.specs.Names.{aCash, aHistory, aRequest, aTrade}
 use Rattle.model.specs.Rows.{found, hasKey, there}
-use Rattle.model.specs.Sound.{bandApart, cashRight, each, namesKnown, ratesFit, settled, tradesDone}
-use Rattle.facts.specs.Names.{of-five}
-use Rattle.sound.specs.OneSide.{lotKept, summaryKept}
-use Rattle.sound.specs.Rules.{agreesWith}
-
--- the kinds of row that hang on a trade
-abbrev pub hungKinds : List ℕ
-hungKinds = kindRequest ∷ kindTradeHistory ∷ kindLot ∷ kindSettlement ∷ kindCash ∷ []
-
-abbrev pub hangs : Row → Bool
-hangs r = among (r .kind) hungKinds
-
--- what a row asks of its trade, where that is there
-abbrev requestFits : List Row → Row → Row → Bool
-requestFits rs t r = eqb (t .status) pending && agreesWith (found (anAccount (t .party)) rs .n1) t r
-
-abbrev historyFits : List Row → Row → Row → Bool
-historyFits rs t r = leb (r .status) (t .status)
-
-abbrev lotFits : List Row → Row → Row → Bool
-lotFits rs t r = lotKept rs r
-
-abbrev settlementFits : List Row → Row → Row → Bool
-settlementFits rs t r = eqb (t .status) completed && eqb (r .flags) (bit (cash (t .flags)))
-
-abbrev cashFits : List Row → Row → Row → Bool
-cashFits rs t r = cashRight rs r
-
-abbrev pub nothingAsked : List Row → Row → Row → Bool
-nothingAsked rs t r = true
-
--- by the kind's number
-abbrev pub hungRules : List (List Row → Row → Row → Bool)
-hungRules =
-    nothingAsked
-    ∷ nothingAsked
-    ∷ nothingAsked
-    ∷ nothingAsked
-    ∷ nothingAsked
-    ∷ nothingAsked
-    ∷ nothingAsked
-    ∷ nothingAsked
-    ∷ nothingAsked
-    ∷ nothingAsked
-    ∷ requestFits
-    ∷ historyFits
-    ∷ lotFits
-    ∷ nothingAsked
-    ∷ nothingAsked
-    ∷ settlementFits
-    ∷ cashFits
-    ∷ []
-
-unfoldable pub fitsTrade : List Row → Row → Row → Bool
-fitsTrade rs t r = getD hungRules (r .kind) nothingAsked rs t r
-
-pub hung-rule : (k : ℕ) (rs : List Row) (t r : Row) → r .kind ≡ k
-    → fitsTrade rs t r ≡ getD hungRules k nothingAsked rs t r
-unfolding fitsTrade
-hung-rule k rs t r e = ap (λ (x : ℕ). getD hungRules x nothingAsked rs t r) e
-
-module _ (rs : List Row) (t r : Row) where
-  pub history-fits : r .kind ≡ kindTradeHistory → leb (r .status) (t .status) ≡ fitsTrade rs t r
-  history-fits e = sym (hung-rule kindTradeHistory rs t r e)
-
-  pub lot-fits : {x : Bool} → r .kind ≡ kindLot → x ≡ lotKept rs r → x ≡ fitsTrade rs t r
-  lot-fits e h = h ∙ sym (hung-rule kindLot rs t r e)
-
-  pub settlement-fits : {x : Bool} → r .kind ≡ kindSettlement → x ≡ settlementFits rs t r → x ≡ fitsTrade rs t r
-  settlement-fits e h = h ∙ sym (hung-rule kindSettlement rs t r e)
-
-  pub cash-fits : {x : Bool} → r .kind ≡ kindCash → x ≡ cashRight rs r → x ≡ fitsTrade rs t r
-  cash-fits e h = h ∙ sym (hung-rule kindCash rs t r e)
-
-  pub as-request : {x : Bool} → r .kind ≡ kindRequest → x ≡ requestFits rs t r → x ≡ fitsTrade rs t r
-  as-request e h = h ∙ sym (hung-rule kindRequest rs t r e)
-
--- a row that hangs on a trade and is none of these is a request
-pub request-kind : (r : Row) → hangs r ≡ true → (r .kind ≡ kindTradeHistory → ⊥) → (r .kind ≡ kindLot → ⊥)
-    → (r .kind ≡ kindSettlement → ⊥) → (r .kind ≡ kindCash → ⊥) → r .kind ≡ kindRequest
-request-kind r h a b c d =
-    of-five (λ (k : ℕ). r .kind ≡ k → r .kind ≡ kindRequest) (r .kind) kindRequest kindTradeHistory kindLot
-    kindSettlement kindCash (λ e. e) (λ e. absurd (a e)) (λ e. absurd (b e)) (λ e. absurd (c e)) (λ e. absurd (d e))
-    h refl
+use Rattle.model.specs.Sound.{each, settled}
+use Rattle.clauses.specs.Hung.{fitsTrade, hangs, offset}
+use Rattle.clauses.specs.Own.{ownWell}
 
 -- its trade is there, and it fits that
 unfoldable pub hungWell : List Row → Row → Bool
@@ -110,46 +25,6 @@ hung rs t =
     && (not (eqb (t .status) pending) || leb tlb (t .form)) && there (aHistory (t .id) (t .status)) rs
     && settled rs t && eqb (count (hasKey (aCash (t .id))) rs) (bit (eqb (t .status) completed && cash (t .flags)))
 
--- the rules of the other rows, and of a trade beside what hangs on it, by the kind's number
-abbrev pub noRule : List Row → Row → Bool
-noRule rs r = true
-
-abbrev summaryWell : List Row → Row → Bool
-summaryWell rs r = namesKnown rs r && summaryKept rs r
-
-abbrev pub ownRules : List (List Row → Row → Bool)
-ownRules =
-    noRule
-    ∷ noRule
-    ∷ ratesFit
-    ∷ noRule
-    ∷ namesKnown
-    ∷ namesKnown
-    ∷ noRule
-    ∷ bandApart
-    ∷ noRule
-    ∷ namesKnown
-    ∷ noRule
-    ∷ noRule
-    ∷ noRule
-    ∷ summaryWell
-    ∷ tradesDone
-    ∷ noRule
-    ∷ noRule
-    ∷ []
-
-unfoldable pub ownWell : List Row → Row → Bool
-ownWell rs r = getD ownRules (r .kind) noRule rs r
-
-pub own-rule : (k : ℕ) (rs : List Row) (r : Row) → r .kind ≡ k → ownWell rs r ≡ getD ownRules k noRule rs r
-unfolding ownWell
-own-rule k rs r e = ap (λ (x : ℕ). getD ownRules x noRule rs r) e
-
-pub own-none : (rs : List Row) (r : Row) → 17 ≤ r .kind → true ≡ ownWell rs r
-unfolding ownWell
-own-none rs r h =
-    ap (λ (f : List Row → Row → Bool). f rs r) (sym (List·getD-eq-default ownRules noRule h))
-
 -- a row's rules, all but what a trade asks of the rows that hang on it
 unfoldable pub firstWell : List Row → Row → Bool
 firstWell rs r = ownWell rs r && (not (hangs r) || hungWell rs r)
@@ -157,38 +32,7 @@ firstWell rs r = ownWell rs r && (not (hangs r) || hungWell rs r)
 unfoldable pub rowWell : List Row → Row → Bool
 rowWell rs r = firstWell rs r && each kindTrade (hung rs) r
 
--- ---- the slot of a row that hangs on a trade: eight for each place, those of the trade's place for what hangs on it
-abbrev pub noOffset : Row → ℕ
-noOffset r = 0
-
-abbrev pub offsets : List (Row → ℕ)
-offsets =
-    noOffset
-    ∷ noOffset
-    ∷ noOffset
-    ∷ noOffset
-    ∷ noOffset
-    ∷ noOffset
-    ∷ noOffset
-    ∷ noOffset
-    ∷ noOffset
-    ∷ noOffset
-    ∷ noOffset
-    ∷ (λ r. r .status)
-    ∷ (λ r. 5)
-    ∷ noOffset
-    ∷ noOffset
-    ∷ (λ r. 6)
-    ∷ (λ r. 7)
-    ∷ []
-
-unfoldable pub offset : Row → ℕ
-offset r = getD offsets (r .kind) noOffset r
-
-pub offset-as : (k : ℕ) (r : Row) → r .kind ≡ k → offset r ≡ getD offsets k noOffset r
-unfolding offset
-offset-as k r e = ap (λ (x : ℕ). getD offsets x noOffset r) e
-
+-- ---- the slot of a row that hangs on a trade
 unfoldable pub home : List Row → Row → ℕ
 home rs r = place (hasKey (aTrade (r .id))) rs
 

@@ -1,8 +1,8 @@
 -- What is shown of the rows of one kind, of several, and of all: a book is sound where every row is well and what hangs
 -- on each trade is right. Assumes nothing.
 use mathlib.Core.Path.{_≡_, refl, sym, ap, _∙_}
-use mathlib.Core.Bool.{Bool, true, false, not, _&&_, false≢true}
-use mathlib.Core.List.{List, []}
+use mathlib.Core.Bool.{Bool, true, false, _&&_, false≢true}
+use mathlib.Core.List.{List}
 use Prim.Native.Nat.{ℕ, _+_, _/_, _≤_, _<_}
 use native.Mathlib.Omega.{arith}
 use lib.Dec.{eqb, ltb}
@@ -20,10 +20,12 @@ use Rattle.facts.specs.Rows.{length-rows}
 use Rattle.shelf.specs.Rows.{rowAt}
 use Rattle.facts.specs.Names.{of-five}
 use Rattle.chains.specs.Group.{apart}
-use Rattle.sound.specs.Chains.{ByKind, Going, go-all, go-more, sound-fits, sound-hung, sound-last}
-use Rattle.sound.specs.Chains.{kindHeads, sound-own}
+use Rattle.sound.specs.Chains.{ByKind, Going, go-all, go-more, sound-fits, sound-hung, sound-last, kindHeads}
+use Rattle.sound.specs.Chains.{sound-own}
 use Rattle.sound.specs.Distinct.{last-unique, lastAt}
-use Rattle.sound.specs.Hung.{firstWell, hangs, hung, hungKinds, hungWell, own-rule, ownWell, rowWell}
+use Rattle.sound.specs.Hung.{firstWell, hung, hungWell, rowWell}
+use Rattle.clauses.specs.Hung.{hangs, hungKinds}
+use Rattle.clauses.specs.Own.{own-rule, ownWell}
 use Rattle.sound.specs.Says.{refuted}
 use Rattle.sound.specs.Well.{sound-by-well}
 

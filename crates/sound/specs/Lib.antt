@@ -3,7 +3,6 @@ pub mod Distinct
 pub mod Once
 pub mod OneSide
 pub mod ByRow
-pub mod Rules
 pub mod RowRules
 pub mod Hung
 pub mod Well

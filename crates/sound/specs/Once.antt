@@ -18,8 +18,11 @@ use Rattle.rules.specs.KeyLaws.{same-keys}
 use Rattle.rules.specs.declared.key.Key.{Key}
 use Rattle.record.specs.declared.row.Row.{Row}
 use Rattle.model.specs.Rows.{found, hasKey, is, nothing, there}
-use Rattle.model.specs.Sound.{alone, s2}
+use Rattle.model.specs.Sound.{alone, s2, agrees}
 use Rattle.laws.specs.Place.{every-at, some-place, the-place}
+use Rattle.record.specs.Symbol.{sameSymbol}
+use Rattle.model.specs.Names.{aRequest, anAccount}
+use Rattle.clauses.specs.Rules.{asAsked}
 
 -- the row that is found has the key
 found-has : (k : Key) (rs : List Row) → there k rs ≡ true → hasKey k (found k rs) ≡ true
@@ -119,3 +122,20 @@ module _ (rs : List Row) (unique : s2 rs ≡ true) (k : Key) (named : k .kind �
       go true e =
           rw (e, only-one (hasKey k) x nothing rs (once rs unique k named ∙ ap bit e)) (one-bit (x (found k rs)))
       go false e = rw (e, none-of (hasKey k) x nothing rs (once rs unique k named ∙ ap bit e))
+
+-- ---- S6
+and-six : (a b c d e f : Bool) → (a && (b && c && d && e && f)) ≡ (a && b && c && d && e && f)
+and-six true b c d e f = refl
+and-six false b c d e f = refl
+
+module _ (rs : List Row) (unique : s2 rs ≡ true) (t : Row) where
+  pub agrees-is : eqb (count (agrees rs t) rs) 1
+      ≡ (there (aRequest (t .id)) rs && asAsked rs t (found (aRequest (t .id)) rs))
+  agrees-is =
+      let k = aRequest (t .id) in
+      let e : (r : Row) → agrees rs t r ≡ (hasKey k r && asAsked rs t r) =
+      λ r. sym (and-six (hasKey k r) (eqb (r .form) (t .form)) (sameSymbol (r .symbol) (t .symbol)) (eqb (r .n1) (t .n1))
+      (eqb (r .n2) (t .n2)) (eqb (r .party) (found (anAccount (t .party)) rs .n1)))
+      in
+      let c : count (agrees rs t) rs ≡ count (λ r. hasKey k r && asAsked rs t r) rs = λ j. count (λ r. e r j) rs in
+      ap (λ (n : ℕ). eqb n 1) c ∙ once-and rs unique k (λ q. omega arith) (asAsked rs t)

@@ -15,22 +15,22 @@ use mir.Syntax.{w64}
 use mir.Val.{toZ}
 use borrow.Author.Tests.{eq-eqb, eqb-true, le-ltb, leb-true, leb-false, ltb-true, ne-eqb}
 use Rattle.laws.specs.Place.{every-at, some-place}
-use Rattle.laws.specs.Search.{count, every, means-every, place, sumZ, total}
+use Rattle.laws.specs.Search.{count, every, means-every, place, total}
 use Rattle.laws.specs.Tests.{_⇔_, Means, and-both, and-left, and-right, one-truth, or-else, or-left, or-right}
 use Rattle.laws.specs.Tests.{or-swap}
 use Rattle.laws.specs.Walk.{from-holds}
-use Rattle.record.specs.Codes.{completed, kindLot, kindSummary}
+use Rattle.record.specs.Codes.{kindLot, kindSummary}
 use Rattle.record.specs.Signed.{up, dn, toZ-high}
 use Rattle.record.specs.Symbol.{same-symbol, sameSymbol, symbol-same}
 use Rattle.record.specs.declared.row.Row.{Row}
-use Rattle.record.specs.declared.symbol.Symbol.{Symbol}
 use Rattle.rules.specs.Meaning.{means-lot}
 use Rattle.rules.specs.Rules.{as-kind, fits}
-use Rattle.model.specs.Names.{aSummary, aTrade}
-use Rattle.model.specs.Rows.{found, hasKey, is, nothing, there}
-use Rattle.model.specs.Sound.{each, equalZ, lotOf, lotRight, otherSign, s1, s8, sharesOf, short, summaryRight}
+use Rattle.model.specs.Names.{aSummary}
+use Rattle.model.specs.Rows.{hasKey, is, nothing, there}
+use Rattle.model.specs.Sound.{each, lotOf, lotRight, otherSign, s1, s8, short, summaryRight}
 use Rattle.facts.specs.Names.{by-holder}
 use Rattle.groups.specs.Sums.{sharesPart}
+use Rattle.clauses.specs.Kept.{equalShares, lotKept, oneSided, summaryKept, tradeAgrees}
 
 -- what is counted and what is summed are none together
 none-alike : {A : Type 0} (p : A → Bool) (f : A → ℕ) (l : List A)
@@ -119,25 +119,6 @@ one-sign rs l u = go (short l) refl
         ∙ rw e
 
 -- ---- the rules of a lot and of a summary, the sign told at the summary
--- "a completed trade of its account and symbol"
-abbrev tradeAgrees : List Row → Row → Bool
-tradeAgrees rs l =
-    eqb (found (aTrade (l .id)) rs .status) completed && eqb (found (aTrade (l .id)) rs .party) (l .party)
-    && sameSymbol (found (aTrade (l .id)) rs .symbol) (l .symbol)
-
-abbrev pub lotKept : List Row → Row → Bool
-lotKept rs l = tradeAgrees rs l && there (aSummary (l .party) (l .symbol)) rs
-
-abbrev equalShares : List Row → Row → Bool
-equalShares rs s = equalZ (sumZ (sharesOf (s .party) (s .symbol)) rs) (toZ w64 (s .m1))
-
-abbrev oneSided : List Row → ℕ → Symbol → Bool
-oneSided rs account symbol =
-    eqb (total (sharesPart false account symbol) rs) 0 || eqb (total (sharesPart true account symbol) rs) 0
-
-abbrev pub summaryKept : List Row → Row → Bool
-summaryKept rs s = summaryRight rs s && oneSided rs (s .party) (s .symbol)
-
 abbrev pub holdingKept : List Row → Row → Bool
 holdingKept rs r = each kindLot (lotKept rs) r && each kindSummary (summaryKept rs) r
 

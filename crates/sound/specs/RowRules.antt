@@ -12,7 +12,7 @@ use Rattle.model.specs.Rows.{found, there}
 use Rattle.model.specs.Sound.{namesKnown, tradesDone}
 use Rattle.sound.specs.ByRow.{kindRight, of-lot-history, rowRight}
 use Rattle.sound.specs.Once.{done-there}
-use Rattle.sound.specs.Rules.{names-two}
+use Rattle.clauses.specs.Rules.{names-two}
 
 -- a test that a later one implies
 implied : (t z : Bool) → (z ≡ true → t ≡ true) → z ≡ (t && z)

@@ -32,7 +32,8 @@ use Rattle.shelf.specs.Rows.{rowAt}
 use Rattle.facts.specs.Found.{own-number}
 use Rattle.facts.specs.Names.{by-id, by-status, history-twin, idKinds, of-five, ofId}
 use Rattle.sound.specs.Distinct.{last-none, unique-last}
-use Rattle.sound.specs.Hung.{hangs, home, hung, hungKinds, noOffset, offset, offset-as, offsets, slot}
+use Rattle.clauses.specs.Hung.{hangs, hungKinds, noOffset, offset, offset-as, offsets}
+use Rattle.sound.specs.Hung.{home, hung, slot}
 use Rattle.sound.specs.Once.{once, one-bit}
 use Rattle.sound.specs.Well.{few-kinds}
 

@@ -1,7 +1,7 @@
 -- A symbol that is spelled right: that of a security or of a trade that fits, and so one whose security or trade is
 -- there. Assumes nothing.
 use mathlib.Core.Path.{_≡_, refl, sym, ap, _∙_}
-use mathlib.Core.Bool.{true, _&&_}
+use mathlib.Core.Bool.{true}
 use mathlib.Core.List.{List}
 use Prim.Native.Nat.{ℕ, _/_, _<_}
 use lib.Dec.{eqb}

@@ -9,13 +9,12 @@ use borrow.Author.Tests.{eqb-false, eqb-true, le-leb, le-ltb, lt-ltb}
 use Rattle.laws.specs.Place.{every-at}
 use Rattle.laws.specs.Search.{place}
 use Rattle.laws.specs.Tests.{and-true}
-use Rattle.record.specs.Codes.{kindAccount, kindCustomerRate, kindFree, kindSummary, kindTrade}
-use Rattle.record.specs.declared.row.Row.{Row}
+use Rattle.record.specs.Codes.{kindFree, kindSummary, kindTrade}
 use Rattle.kinds.specs.Kinds.{tradeOf}
 use Rattle.kinds.specs.declared.rows.Trade.{Trade}
 use Rattle.rules.specs.Key.{keyOf}
 use Rattle.rules.specs.Rules.{fits}
-use Rattle.model.specs.Names.{aBroker, aCustomer, aSecurity, aTaxRate, anAccount, named}
+use Rattle.model.specs.Names.{aSecurity, anAccount, named}
 use Rattle.model.specs.Rows.{hasKey, nothing, rows, there}
 use Rattle.model.specs.Sound.{s1}
 use Rattle.facts.specs.Rows.{length-rows}
@@ -24,24 +23,11 @@ use Rattle.chains.specs.Chains.{half}
 use Rattle.directory.specs.Found.{key-there}
 use Rattle.directory.specs.Listed.{Listed, key-grouped, own-group, own-key, probe-next, probe-none}
 use Rattle.sound.specs.Distinct.{last-free, last-kept, lastAt}
-use Rattle.sound.specs.Hung.{hangs, own-rule, ownWell}
+use Rattle.clauses.specs.Hung.{hangs}
+use Rattle.clauses.specs.Own.{own-rule, ownWell}
 use Rattle.sound.specs.Kinds.{by-itself}
-use Rattle.sound.specs.OneSide.{summaryKept}
-use Rattle.sound.specs.Rules.{names-two}
-
-module _ (rs : List Row) (r : Row) {x : Bool} where
-  pub rate-told : r .kind ≡ kindCustomerRate → x ≡ (there (aCustomer (r .party)) rs && there (aTaxRate (r .n1)) rs)
-      → x ≡ ownWell rs r
-  unfolding named
-  rate-told e h =
-      h ∙ names-two rs r (aCustomer (r .party)) (aTaxRate (r .n1)) (rw e) refl refl
-      ∙ sym (own-rule kindCustomerRate rs r e)
-
-  pub account-told : r .kind ≡ kindAccount → x ≡ (there (aBroker (r .n1)) rs && there (aCustomer (r .n2)) rs)
-      → x ≡ ownWell rs r
-  unfolding named
-  account-told e h =
-      h ∙ names-two rs r (aBroker (r .n1)) (aCustomer (r .n2)) (rw e) refl refl ∙ sym (own-rule kindAccount rs r e)
+use Rattle.clauses.specs.Kept.{summaryKept}
+use Rattle.clauses.specs.Rules.{names-two}
 
 pub summary-told : (b : List ℕ) (i : ℕ) {x : Bool} → i < length b / 64 → rowAt b i .kind ≡ kindSummary
     → s1 (rows b) ≡ true

@@ -26,7 +26,8 @@ use Rattle.sound.specs.ByRow.{rule-kept, rule-lost}
 use Rattle.sound.specs.Chains.{ByKind, Going, go-all, go-more, go-start, head-clear, kindHeads, link-clear}
 use Rattle.sound.specs.Chains.{kinds-less, sound-fits, sound-hangs, sound-last}
 use Rattle.sound.specs.Distinct.{last-none, none-last}
-use Rattle.sound.specs.Hung.{fitsTrade, hangs, home, hungKinds, hungWell, offset, slot}
+use Rattle.clauses.specs.Hung.{fitsTrade, hangs, hungKinds, offset}
+use Rattle.sound.specs.Hung.{home, hungWell}
 use Rattle.sound.specs.Kinds.{KindWell, WellAt, hung-first}
 use Rattle.sound.specs.Says.{refuted}
 use Rattle.sound.specs.Slots.{MarkedTo, Past, key-slot, slot-key, slotAt, small-offset}

@@ -22,21 +22,21 @@ use Rattle.record.specs.Symbol.{same-symbol, sameSymbol}
 use Rattle.record.specs.declared.row.Row.{Row}
 use Rattle.rules.specs.Rules.{fits, no-kind}
 use Rattle.model.specs.Flags.{cash}
-use Rattle.model.specs.Names.{aBroker, aCash, aCustomer, aHistory, aRequest, aSecurity, aSettlement, aSummary}
-use Rattle.model.specs.Names.{aTrade, anAccount, byId, named}
+use Rattle.model.specs.Names.{aBroker, aCash, aCustomer, aHistory, aRequest, aSecurity, aSettlement, aSummary, aTrade}
+use Rattle.model.specs.Names.{anAccount, byId, named}
 use Rattle.model.specs.Rows.{found, hasKey, is, nothing, there}
-use Rattle.model.specs.Sound.{agrees, each, higher, historyRight, namesKnown, requestRight, s1, s2, settled}
-use Rattle.model.specs.Sound.{sound}
+use Rattle.model.specs.Sound.{agrees, each, higher, historyRight, namesKnown, requestRight, s1, s2, settled, sound}
 use Rattle.model.specs.SoundMeans.{SoundBook, means-sound}
 use Rattle.facts.specs.Found.{found-again, own-number}
 use Rattle.facts.specs.Names.{by-id, by-party, idKinds, of-five}
 use Rattle.sound.specs.ByRow.{kindRight, of-band, of-cash, of-customer, of-lot, of-settlement, of-summary}
 use Rattle.sound.specs.ByRow.{of-trade, rowRight, sound-by-row}
-use Rattle.sound.specs.Hung.{firstWell, fitsTrade, hangs, hung, hung-rule, hungKinds, hungWell}
-use Rattle.sound.specs.Hung.{hungRules, noRule, nothingAsked, own-rule, ownRules, ownWell, rowWell}
-use Rattle.sound.specs.Once.{found-none, once}
+use Rattle.sound.specs.Hung.{firstWell, hung, hungWell, rowWell}
+use Rattle.clauses.specs.Hung.{fitsTrade, hangs, hung-rule, hungKinds, hungRules, nothingAsked}
+use Rattle.clauses.specs.Own.{noRule, own-rule, ownRules, ownWell}
+use Rattle.sound.specs.Once.{found-none, once, agrees-is}
 use Rattle.sound.specs.RowRules.{lot-history-row, row-both, row-kind, row-names}
-use Rattle.sound.specs.Rules.{agrees-is, asAsked, names-none, names-one, names-three, names-two}
+use Rattle.clauses.specs.Rules.{asAsked, names-none, names-one, names-three, names-two}
 
 and-five : (a b c d e : Bool) → a ≡ true → b ≡ true → c ≡ true → d ≡ true → e ≡ true → (a && b && c && d && e) ≡ true
 and-five a b c d e p q r s t = rw (p, q, r, s, t)

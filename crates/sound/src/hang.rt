@@ -4,27 +4,25 @@ ghost use mathlib.Core.Path.{_≡_};
 ghost use mathlib.Core.Bool.{false, true};
 ghost use Prim.Native.Nat.{_+_, _*_, _/_, _<_};
 ghost use lib.ListN.{length};
+ghost use Rattle.laws.specs.Search.{bit};
 ghost use Rattle.record.specs.Codes.{kindTrade};
 ghost use Rattle.rules.specs.Key.{among};
-ghost use Rattle.model.specs.Names.{aTrade};
-ghost use Rattle.model.specs.Rows.{found, rows};
+ghost use Rattle.model.specs.Rows.{rows};
 ghost use Rattle.model.specs.Sound.{s1, s2, sound};
 ghost use Rattle.shelf.specs.Rows.{rowAt};
 ghost use Rattle.directory.specs.Listed.{Listed};
 ghost use Rattle.sound.specs.Chains.{ByKind};
 ghost use Rattle.sound.specs.Kinds.{KindFits, KindWell, TradesHung};
-ghost use Rattle.sound.specs.Hung.{fitsTrade, hangs, hung, hungKinds, offset};
+ghost use Rattle.clauses.specs.Hung.{hangs, hungKinds, offset};
+ghost use Rattle.sound.specs.Hung.{hung};
 ghost use Rattle.sound.specs.Says.{Says};
 ghost use Rattle.sound.specs.Slots.{MarkedTo, allPast};
 ghost use Rattle.sound.specs.Turn.{Hanged};
 use crate::chain::first;
 use crate::chain::index;
 use crate::chain::next;
-use crate::holding::held;
-use crate::trade::asked;
-use crate::trade::due;
-use crate::trade::one;
-use crate::trade::settles;
+use clauses::hung::fits_trade;
+use clauses::hung::offset;
 use directory::typed::trade;
 use fields::fits_beside;
 use kinds::units::TradeNo;
@@ -32,7 +30,6 @@ use record::codes::Kind;
 use record::codes::TradeStatus;
 use record::codes::TradeType;
 use record::row::Grid;
-use record::row::Row;
 use shelf::place::part;
 use shelf::place::row_at;
 
@@ -47,34 +44,10 @@ impl Marks {
     pub const NONE: usize = 32_768;
 }
 
-fn offset(r: Row) -> usize
-    requires { ⌜ hangs r ≡ true ⌝ }
-    ensures { λ o. ⌜ o ≡ offset r ⌝ }
+fn one(b: bool) -> u8
+    ensures { λ r. ⌜ r ≡ bit b ⌝ }
 {
-    let kind = r.kind;
-    match kind {
-        Kind::TRADE_HISTORY => index(r.status),
-        Kind::LOT => 5,
-        Kind::SETTLEMENT => 6,
-        Kind::CASH => 7,
-        _ => 0,
-    }
-}
-
-// A row fits its trade.
-fn fits_trade(book: &[u8], dir: &[u16], t: Row, r: Row) -> bool
-    requires { ⌜ Listed (now book) (now dir) ⌝ }
-    requires { ⌜ (hangs r ≡ true) × (t ≡ found (aTrade (r .id)) (rows (now book))) ⌝ }
-    ensures { λ b. ⌜ b ≡ fitsTrade (rows (now (book .entry))) t r ⌝ }
-{
-    let kind = r.kind;
-    match kind {
-        Kind::TRADE_HISTORY => r.status <= t.status,
-        Kind::LOT => held(book, dir, t, r),
-        Kind::SETTLEMENT => settles(t, r),
-        Kind::CASH => due(book, dir, r),
-        _ => asked(book, dir, t, r),
-    }
+    if b { 1 } else { 0 }
 }
 
 // The slot of the row at i where that is well and no row before it has the slot, else no mark's number. Its symbol is

@@ -4,8 +4,5 @@
 pub mod area;
 pub mod chain;
 pub mod hang;
-pub mod holding;
-pub mod names;
 pub mod own;
-pub mod trade;
 pub mod whole;

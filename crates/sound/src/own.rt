@@ -7,34 +7,27 @@ ghost use lib.ListN.{length};
 ghost use Rattle.record.specs.Codes.{kindSecurity, kindSummary, kindTrade};
 ghost use Rattle.rules.specs.Rules.{fits};
 ghost use Rattle.rules.specs.Key.{among};
-ghost use Rattle.model.specs.Names.{aSecurity, anAccount};
-ghost use Rattle.model.specs.Rows.{rows, there};
+ghost use Rattle.model.specs.Rows.{rows};
 ghost use Rattle.model.specs.Sound.{s1, sound};
 ghost use Rattle.shelf.specs.Rows.{rowAt};
 ghost use Rattle.directory.specs.Listed.{Listed};
 ghost use Rattle.sound.specs.Chains.{ByKind};
 ghost use Rattle.sound.specs.Kinds.{KindFits, KindWell, WellTo};
 ghost use Rattle.sound.specs.Distinct.{lastAt};
-ghost use Rattle.sound.specs.Hung.{hangs, hungKinds, ownWell};
-ghost use Rattle.sound.specs.OneSide.{summaryKept};
+ghost use Rattle.clauses.specs.Hung.{hangs, hungKinds};
+ghost use Rattle.clauses.specs.Own.{ownWell};
 ghost use Rattle.sound.specs.Says.{Says};
 use crate::chain::first;
 use crate::chain::next;
-use crate::holding::apart;
-use crate::holding::rates_fit;
-use crate::holding::summed;
-use crate::names::rated;
-use crate::names::served;
-use crate::names::traded;
-use crate::trade::done;
 use chains::chain;
+use clauses::own::kept;
+use clauses::own::right;
 use directory::find::again;
 use directory::typed::account;
 use directory::typed::security;
 use fields::fits;
 use fields::fits_beside;
 use kinds::rows::Trade;
-use kinds::units::AccountNo;
 use record::codes::Kind;
 use record::row::Grid;
 use shelf::place::part;
@@ -63,48 +56,6 @@ fn last(book: &[u8], dir: &[u16], i: usize) -> bool
         return true;
     }
     n <= again(book, dir, i, row)
-}
-
-// A summary's own rule.
-fn kept(book: &[u8], dir: &[u16], i: usize) -> bool
-    requires { ⌜ Listed (now book) (now dir) × (s1 (rows (now book)) ≡ true) ⌝ }
-    ensures { λ b.
-        let rs = rows (now (book .entry)) in
-        let r = rowAt (now (book .entry)) i in
-        ⌜ b ≡ (there (anAccount (r .party)) rs && there (aSecurity (r .symbol)) rs && summaryKept rs r) ⌝ }
-{
-    let s = row_at(book, i);
-    traded(book, dir, AccountNo(s.party), s.symbol) & summed(book, dir, s)
-}
-
-// The own rule of a row that is neither a trade nor a summary. What it tells is not looked for again: the trades of a
-// lot history are completed, so they are in the book.
-fn right(book: &[u8], dir: &[u16], kind: u8, i: usize) -> bool
-    requires { ⌜ Listed (now book) (now dir) ⌝ }
-    requires { ⌜ (i < length (now book) / 64) × (rowAt (now book) i .kind ≡ kind) ⌝ }
-    requires { ⌜ (kind ≡ kindTrade → ⊥) × (kind ≡ kindSummary → ⊥) ⌝ }
-    ensures { λ b. ⌜ b ≡ ownWell (rows (now (book .entry))) (rowAt (now (book .entry)) i) ⌝ }
-{
-    match kind {
-        Kind::FREE => true,
-        Kind::BROKER => true,
-        Kind::CUSTOMER => rates_fit(book, dir, i),
-        Kind::TAX_RATE => true,
-        Kind::CUSTOMER_RATE => rated(book, dir, i),
-        Kind::ACCOUNT => served(book, dir, i),
-        Kind::SECURITY => true,
-        Kind::BAND => apart(book, dir, i),
-        Kind::CHARGE => true,
-        Kind::TRADE => true,
-        Kind::REQUEST => true,
-        Kind::TRADE_HISTORY => true,
-        Kind::LOT => true,
-        Kind::SUMMARY => true,
-        Kind::LOT_HISTORY => done(book, dir, i),
-        Kind::SETTLEMENT => true,
-        Kind::CASH => true,
-        _ => true,
-    }
 }
 
 // S1 and the own rule of a trade. Its symbol is that of a security, so that it is spelled right.

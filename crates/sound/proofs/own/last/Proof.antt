@@ -1,7 +1,7 @@
 -- The chain ends at the row, or the next place of the row's key is the end. Assumes nothing.
 use mathlib.Core.Path.{ap, _∙_}
 use Rattle.sound.specs.Distinct.{last-free, last-kept}
-use Rattle.sound.specs.Hung.{hangs}
+use Rattle.clauses.specs.Hung.{hangs}
 use Rattle.sound.specs.Kinds.{by-itself}
 use Rattle.sound.specs.Told.{ends-last}
 use borrow.Author.Needs.{needs}

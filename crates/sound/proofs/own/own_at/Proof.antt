@@ -2,9 +2,8 @@
 use mathlib.Core.Path.{ap, _∙_}
 use Prim.Native.Nat.{ℕ}
 use Rattle.rules.specs.Key.{among}
-use Rattle.sound.specs.Hung.{hungKinds}
+use Rattle.clauses.specs.Hung.{hungKinds}
 use Rattle.sound.specs.Told.{told-last}
-use borrow.Author.Needs.{needs}
 use Rattle.sound.proofs.own.own_at.Statement.{statement}
 use Rattle.sound.proofs.own.own_at.Tie as tie
 

@@ -1,0 +1,17 @@
+-- By the sum of the rates. Assumes nothing.
+use mathlib.Core.Path.{ap, _∙_}
+use Rattle.kinds.specs.Kinds.{customerOf}
+use borrow.Author.Needs.{needs}
+use Rattle.clauses.proofs.holding.rates_fit.Statement.{statement}
+use Rattle.clauses.proofs.holding.rates_fit.Tie as tie
+
+returns : tie.Need-returns
+unfolding customerOf
+returns c =
+    let row = c .before .from-bytes .ensures ∙ ap customerOf (c .before .before .part .ensures .1) in
+    rw (c .rates .ensures, row)
+
+pub rates-fit-spec : {M : Type 1} → statement M
+rates-fit-spec =
+    tie.close
+    (tie.spec (λ c κs. search needs) (λ c κs. search needs) (λ c κs. search needs) (λ c. search needs) returns)

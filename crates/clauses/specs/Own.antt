@@ -1,0 +1,68 @@
+-- The own rule of a row by its kind: all that S3 to S10 ask of it, but for the rows that hang on a trade.
+-- Assumes nothing.
+use mathlib.Core.Path.{_≡_, refl, sym, ap, _∙_}
+use mathlib.Core.Bool.{Bool, true, _&&_}
+use mathlib.Core.List.{List, [], _∷_}
+use Prim.Native.Nat.{ℕ, _≤_}
+use lib.ListN.{getD, List·getD-eq-default}
+use Rattle.record.specs.declared.row.Row.{Row}
+use Rattle.model.specs.Rows.{there}
+use Rattle.model.specs.Sound.{bandApart, namesKnown, ratesFit, tradesDone}
+use Rattle.clauses.specs.Kept.{summaryKept}
+use Rattle.record.specs.Codes.{kindAccount, kindCustomerRate}
+use Rattle.model.specs.Names.{aBroker, aCustomer, aTaxRate, named}
+use Rattle.clauses.specs.Rules.{names-two}
+
+-- the rules of the other rows, and of a trade beside what hangs on it, by the kind's number
+abbrev pub noRule : List Row → Row → Bool
+noRule rs r = true
+
+abbrev summaryWell : List Row → Row → Bool
+summaryWell rs r = namesKnown rs r && summaryKept rs r
+
+abbrev pub ownRules : List (List Row → Row → Bool)
+ownRules =
+    noRule
+    ∷ noRule
+    ∷ ratesFit
+    ∷ noRule
+    ∷ namesKnown
+    ∷ namesKnown
+    ∷ noRule
+    ∷ bandApart
+    ∷ noRule
+    ∷ namesKnown
+    ∷ noRule
+    ∷ noRule
+    ∷ noRule
+    ∷ summaryWell
+    ∷ tradesDone
+    ∷ noRule
+    ∷ noRule
+    ∷ []
+
+unfoldable pub ownWell : List Row → Row → Bool
+ownWell rs r = getD ownRules (r .kind) noRule rs r
+
+pub own-rule : (k : ℕ) (rs : List Row) (r : Row) → r .kind ≡ k → ownWell rs r ≡ getD ownRules k noRule rs r
+unfolding ownWell
+own-rule k rs r e = ap (λ (x : ℕ). getD ownRules x noRule rs r) e
+
+pub own-none : (rs : List Row) (r : Row) → 17 ≤ r .kind → true ≡ ownWell rs r
+unfolding ownWell
+own-none rs r h =
+    ap (λ (f : List Row → Row → Bool). f rs r) (sym (List·getD-eq-default ownRules noRule h))
+
+module _ (rs : List Row) (r : Row) {x : Bool} where
+  pub rate-told : r .kind ≡ kindCustomerRate → x ≡ (there (aCustomer (r .party)) rs && there (aTaxRate (r .n1)) rs)
+      → x ≡ ownWell rs r
+  unfolding named
+  rate-told e h =
+      h ∙ names-two rs r (aCustomer (r .party)) (aTaxRate (r .n1)) (rw e) refl refl
+      ∙ sym (own-rule kindCustomerRate rs r e)
+
+  pub account-told : r .kind ≡ kindAccount → x ≡ (there (aBroker (r .n1)) rs && there (aCustomer (r .n2)) rs)
+      → x ≡ ownWell rs r
+  unfolding named
+  account-told e h =
+      h ∙ names-two rs r (aBroker (r .n1)) (aCustomer (r .n2)) (rw e) refl refl ∙ sym (own-rule kindAccount rs r e)
