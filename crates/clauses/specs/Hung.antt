@@ -90,13 +90,12 @@ module _ (rs : List Row) (t r : Row) where
   pub as-request : {x : Bool} → r .kind ≡ kindRequest → x ≡ requestFits rs t r → x ≡ fitsTrade rs t r
   as-request e h = h ∙ sym (hung-rule kindRequest rs t r e)
 
--- a row that hangs on a trade and is none of these is a request
-pub request-kind : (r : Row) → hangs r ≡ true → (r .kind ≡ kindTradeHistory → ⊥) → (r .kind ≡ kindLot → ⊥)
-    → (r .kind ≡ kindSettlement → ⊥) → (r .kind ≡ kindCash → ⊥) → r .kind ≡ kindRequest
-request-kind r h a b c d =
-    of-five (λ (k : ℕ). r .kind ≡ k → r .kind ≡ kindRequest) (r .kind) kindRequest kindTradeHistory kindLot
-    kindSettlement kindCash (λ e. e) (λ e. absurd (a e)) (λ e. absurd (b e)) (λ e. absurd (c e)) (λ e. absurd (d e))
-    h refl
+-- a kind that hangs on a trade and is none of these is a request
+pub request-kind : (k : ℕ) → among k hungKinds ≡ true → (k ≡ kindTradeHistory → ⊥) → (k ≡ kindLot → ⊥)
+    → (k ≡ kindSettlement → ⊥) → (k ≡ kindCash → ⊥) → k ≡ kindRequest
+request-kind k h a b c d =
+    of-five (λ (x : ℕ). k ≡ x → k ≡ kindRequest) k kindRequest kindTradeHistory kindLot kindSettlement kindCash
+    (λ e. e) (λ e. absurd (a e)) (λ e. absurd (b e)) (λ e. absurd (c e)) (λ e. absurd (d e)) h refl
 
 -- ---- the slot of a row that hangs on a trade: eight for each place, those of the trade's place for what hangs on it
 abbrev pub noOffset : Row → ℕ

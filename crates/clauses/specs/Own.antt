@@ -3,13 +3,14 @@
 use mathlib.Core.Path.{_≡_, refl, sym, ap, _∙_}
 use mathlib.Core.Bool.{Bool, true, _&&_}
 use mathlib.Core.List.{List, [], _∷_}
-use Prim.Native.Nat.{ℕ, _≤_}
-use lib.ListN.{getD, List·getD-eq-default}
+use Prim.Native.Nat.{ℕ, zero, suc}
+use lib.ListN.{getD}
 use Rattle.record.specs.declared.row.Row.{Row}
 use Rattle.model.specs.Rows.{there}
 use Rattle.model.specs.Sound.{bandApart, namesKnown, ratesFit, tradesDone}
 use Rattle.clauses.specs.Kept.{summaryKept}
-use Rattle.record.specs.Codes.{kindAccount, kindCustomerRate}
+use Rattle.record.specs.Codes.{kindAccount, kindCustomerRate, kindBand, kindCustomer, kindLotHistory, kindSummary}
+use Rattle.record.specs.Codes.{kindTrade}
 use Rattle.model.specs.Names.{aBroker, aCustomer, aTaxRate, named}
 use Rattle.clauses.specs.Rules.{names-two}
 
@@ -48,10 +49,33 @@ pub own-rule : (k : ℕ) (rs : List Row) (r : Row) → r .kind ≡ k → ownWell
 unfolding ownWell
 own-rule k rs r e = ap (λ (x : ℕ). getD ownRules x noRule rs r) e
 
-pub own-none : (rs : List Row) (r : Row) → 17 ≤ r .kind → true ≡ ownWell rs r
+-- a row of any other kind has no rule of its own
+pub own-none : (rs : List Row) (r : Row) → (r .kind ≡ kindCustomer → ⊥) → (r .kind ≡ kindCustomerRate → ⊥)
+    → (r .kind ≡ kindAccount → ⊥) → (r .kind ≡ kindBand → ⊥) → (r .kind ≡ kindLotHistory → ⊥)
+    → (r .kind ≡ kindTrade → ⊥) → (r .kind ≡ kindSummary → ⊥) → true ≡ ownWell rs r
 unfolding ownWell
-own-none rs r h =
-    ap (λ (f : List Row → Row → Bool). f rs r) (sym (List·getD-eq-default ownRules noRule h))
+own-none rs r customer rate account band done trade summary = go (r .kind) refl
+  where
+    -- by the number of the kind
+    go : (k : ℕ) → r .kind ≡ k → true ≡ getD ownRules k noRule rs r
+    go zero e = refl
+    go (suc zero) e = refl
+    go (suc (suc zero)) e = absurd (customer e)
+    go (suc (suc (suc zero))) e = refl
+    go (suc (suc (suc (suc zero)))) e = absurd (rate e)
+    go (suc (suc (suc (suc (suc zero))))) e = absurd (account e)
+    go (suc (suc (suc (suc (suc (suc zero)))))) e = refl
+    go (suc (suc (suc (suc (suc (suc (suc zero))))))) e = absurd (band e)
+    go (suc (suc (suc (suc (suc (suc (suc (suc zero)))))))) e = refl
+    go (suc (suc (suc (suc (suc (suc (suc (suc (suc zero))))))))) e = absurd (trade e)
+    go (suc (suc (suc (suc (suc (suc (suc (suc (suc (suc zero)))))))))) e = refl
+    go (suc (suc (suc (suc (suc (suc (suc (suc (suc (suc (suc zero))))))))))) e = refl
+    go (suc (suc (suc (suc (suc (suc (suc (suc (suc (suc (suc (suc zero)))))))))))) e = refl
+    go (suc (suc (suc (suc (suc (suc (suc (suc (suc (suc (suc (suc (suc zero))))))))))))) e = absurd (summary e)
+    go (suc (suc (suc (suc (suc (suc (suc (suc (suc (suc (suc (suc (suc (suc zero)))))))))))))) e = absurd (done e)
+    go (suc (suc (suc (suc (suc (suc (suc (suc (suc (suc (suc (suc (suc (suc (suc zero))))))))))))))) e = refl
+    go (suc (suc (suc (suc (suc (suc (suc (suc (suc (suc (suc (suc (suc (suc (suc (suc zero)))))))))))))))) e = refl
+    go (suc (suc (suc (suc (suc (suc (suc (suc (suc (suc (suc (suc (suc (suc (suc (suc (suc k))))))))))))))))) e = refl
 
 module _ (rs : List Row) (r : Row) {x : Bool} where
   pub rate-told : r .kind ≡ kindCustomerRate → x ≡ (there (aCustomer (r .party)) rs && there (aTaxRate (r .n1)) rs)

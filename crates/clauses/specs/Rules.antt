@@ -2,27 +2,42 @@
 use mathlib.Core.Path.{_≡_, refl, sym, ap, _∙_}
 use mathlib.Core.Bool.{Bool, true, false, _&&_, _||_}
 use mathlib.Core.List.{List, [], _∷_}
-use Prim.Native.Nat.{ℕ, _+_, _%_}
+use Prim.Native.Nat.{ℕ, _+_, _%_, zero, suc, _/_, _<_, _*_}
 use native.Mathlib.Omega.{arith}
-use lib.Dec.{eqb, leb}
-use lib.IntN.{ℤ}
+use lib.Dec.{eqb, leb, ltb}
+use lib.IntN.{ℤ, pos, negsuc, _-ℤ_}
 use mir.Syntax.{w64}
-use mir.Val.{toZ}
-use borrow.Author.Tests.{eq-eqb, eqb-true, eqb-false, leb-true, leb-false, ne-eqb}
-use Rattle.laws.specs.Search.{bit, count, every, sumZ, total}
+use mir.Val.{toZ, ofZ, Fits, SFits}
+use borrow.Author.Tests.{eq-eqb, eqb-true, eqb-false, leb-true, leb-false, ne-eqb, ltb-true, ltb-false}
+use Rattle.laws.specs.Search.{bit, count, every, sumZ, total, place}
 use Rattle.laws.specs.Tests.{and-assoc, and-true}
-use Rattle.record.specs.Codes.{completed}
-use Rattle.record.specs.Signed.{up, dn, parts-add, leZ-is}
+use Rattle.record.specs.Codes.{completed, pending}
+use Rattle.record.specs.Signed.{up, dn, parts-add, leZ-is, eq-parts}
 use Rattle.record.specs.Symbol.{sameSymbol}
 use Rattle.rules.specs.declared.key.Key.{Key}
 use Rattle.record.specs.declared.row.Row.{Row}
 use Rattle.record.specs.declared.symbol.Symbol.{Symbol}
 use Rattle.model.specs.Flags.{cash}
-use Rattle.model.specs.Names.{anAccount, named}
-use Rattle.model.specs.Rows.{found, there}
-use Rattle.model.specs.Sound.{equalZ, lotOf, namesKnown, sharesOf}
-use Rattle.groups.specs.Sums.{sharesPart, side}
-use Rattle.clauses.specs.Kept.{summaryKept}
+use Rattle.model.specs.Names.{anAccount, named, aSettlement}
+use Rattle.model.specs.Rows.{found, there, rows, hasKey}
+use Rattle.model.specs.Sound.{equalZ, lotOf, namesKnown, sharesOf, cashRight}
+use Rattle.groups.specs.Sums.{sharesPart, HoldsSide}
+use Rattle.clauses.specs.Kept.{comesTo}
+use lib.ListN.{length, getD, drop}
+use mir.Facts.{toZ-ofZ, ofZ-toZ}
+use Rattle.laws.specs.Chunk.{part}
+use Rattle.record.specs.Bytes.{Bytes}
+use Rattle.record.specs.Grid.{decode}
+use Rattle.kinds.specs.Kinds.{tradeOf, requestOf, settlementOf, cashOf}
+use Rattle.kinds.specs.Units.{shares}
+use Rattle.kinds.specs.declared.rows.Trade.{Trade}
+use Rattle.kinds.specs.declared.rows.Request.{Request}
+use Rattle.kinds.specs.declared.rows.Settlement.{Settlement}
+use Rattle.kinds.specs.declared.rows.Cash.{Cash}
+use Rattle.kinds.specs.declared.units.Shares.{Shares}
+use Rattle.shelf.specs.Rows.{rowAt, rows-at, rows-past}
+use Rattle.directory.specs.Found.{key-row}
+use lib.Seq.{getD-take, getD-drop}
 
 -- ---- S3
 module _ (rs : List Row) (r : Row) where
@@ -54,6 +69,18 @@ agreesWith broker t r =
 
 abbrev pub asAsked : List Row → Row → Row → Bool
 asAsked rs t r = agreesWith (found (anAccount (t .party)) rs .n1) t r
+
+-- the same of the values that the rows are
+abbrev pub sameTerms : ℕ → Trade → Request → Bool
+sameTerms broker t q =
+    eqb (q .«trade_type») (t .«trade_type») && sameSymbol (q .symbol) (t .symbol)
+    && eqb (up (q .shares .0)) (up (t .shares .0)) && eqb (q .bid .0) (t .bid .0) && eqb (q .broker .0) broker
+
+pub asked-is : (rs : List Row) (t r : Row) {x : Trade} {y : Request} {broker : ℕ} {b : Bool} → x ≡ tradeOf t
+    → y ≡ requestOf r → broker ≡ found (anAccount (x .account .0)) rs .n1 → b ≡ sameTerms broker x y
+    → (eqb (x .status) pending && b) ≡ (eqb (t .status) pending && asAsked rs t r)
+unfolding tradeOf requestOf
+asked-is rs t r e f g h = rw (h, g, e, f)
 
 -- ---- S8: the shares held and those owed, apart
 sides : (account : ℕ) (symbol : Symbol) (l : List Row)
@@ -105,19 +132,35 @@ same-equal a b c d f g = go (eqb a b) refl
     go true e = rw e (sym (eq-eqb c d (f (eqb-true a b e))))
     go false e = rw e (sym (ne-eqb c d (λ q. eqb-false a b e (g q))))
 
-pub summary-is : (rs : List Row) (s : Row) {many long owed x y : ℕ}
-    → many ≡ count (lotOf (s .party) (s .symbol)) rs → long ≡ total (sharesPart false (s .party) (s .symbol)) rs
-    → owed ≡ total (sharesPart true (s .party) (s .symbol)) rs → x ≡ side true (s .m1) → y ≡ side false (s .m1)
-    → (leb 1 many && eqb (long + x) (owed + y) && (eqb long 0 || eqb owed 0)) ≡ summaryKept rs s
-summary-is rs s {many} {long} {owed} {x} {y} h l o ex ey =
-    let z = toZ w64 (s .m1) in
-    let total-shares = sumZ (sharesOf (s .party) (s .symbol)) rs in
-    let e = sides (s .party) (s .symbol) rs in
-    let q : eqb (long + x) (owed + y) ≡ eqb (up total-shares + dn z) (up z + dn total-shares) =
-    same-equal (long + x) (owed + y) (up total-shares + dn z) (up z + dn total-shares) (λ u. omega arith)
-    (λ u. omega arith)
+-- a number and its bits
+pub same-bits : (a b : ℤ) → SFits w64 a → SFits w64 b → eqb (ofZ w64 a) (ofZ w64 b) ≡ equalZ a b
+same-bits a b f g =
+    same-equal (ofZ w64 a) (ofZ w64 b) (up a + dn b) (up b + dn a)
+    (λ e. let q : a ≡ b = sym (toZ-ofZ f) ∙ ap (toZ w64) e ∙ toZ-ofZ g in rw q (omega arith))
+    (λ e. ap (ofZ w64) (eq-parts a b e))
+    ∙ sym (equal-parts a b)
+
+less-parts : (m n : ℕ) → up (pos m -ℤ pos n) + n ≡ dn (pos m -ℤ pos n) + m
+less-parts m zero = let z = parts-add (pos m) (pos 0) in omega arith
+less-parts m (suc n) = let z = parts-add (pos m) (negsuc n) in omega arith
+
+pub comes-to : (rs : List Row) (account : ℕ) (symbol : Symbol) (z : ℤ) {many u v : ℕ} {long owed d : Shares} {t : Bool}
+    → many ≡ count (lotOf account symbol) rs → HoldsSide false account symbol rs long
+    → HoldsSide true account symbol rs owed → d ≡ shares (long .0 -ℤ owed .0) → t ≡ equalZ (d .0) z
+    → u ≡ up (long .0) → v ≡ up (owed .0)
+    → (leb 1 many && t && (eqb u 0 || eqb v 0)) ≡ comesTo rs account symbol z
+comes-to rs account symbol z {many} {u} {v} {long} {owed} {d} h l o ed et eu ev =
+    let m = total (sharesPart false account symbol) rs in
+    let n = total (sharesPart true account symbol) rs in
+    let e = sides account symbol rs in
+    let p = less-parts m n in
+    let s : pos m -ℤ pos n ≡ sumZ (sharesOf account symbol) rs =
+    eq-parts (pos m -ℤ pos n) (sumZ (sharesOf account symbol) rs) (omega arith)
     in
-    rw (← h, equal-parts total-shares z, q, ← l, ← o)
+    let q : d .0 ≡ sumZ (sharesOf account symbol) rs =
+    ap (λ (x : Shares). x .0) ed ∙ (λ i. l .0 i -ℤ o .0 i) ∙ s
+    in
+    rw (et, q, eu, ev, l .0, o .0, h)
 
 -- ---- S9
 low-bit : (f : ℕ) → f % 2 ≡ bit (eqb (f % 2) 1)
@@ -128,7 +171,43 @@ low-bit f = go (eqb (f % 2) 1) refl
     go false e = let n = eqb-false (f % 2) 1 e in rw e (let m : (f % 2 ≡ 1 → ⊥) = n in omega arith)
 
 -- a settlement has its trade's cash flag
-pub settles-is : (t s : Row)
-    → (eqb (t .status) completed && eqb (s .flags) (t .flags % 2))
-    ≡ (eqb (t .status) completed && eqb (s .flags) (bit (cash (t .flags))))
-settles-is t s = ap (λ (x : ℕ). eqb (t .status) completed && eqb (s .flags) x) (low-bit (t .flags))
+pub settles-is : (t r : Row) {x : Trade} {s : Settlement} → x ≡ tradeOf t → s ≡ settlementOf r
+    → (eqb (x .status) completed && eqb (s .cash) (x .flags % 2))
+    ≡ (eqb (t .status) completed && eqb (r .flags) (bit (cash (t .flags))))
+unfolding tradeOf settlementOf
+settles-is t r e f =
+    rw (e, f) (ap (λ (x : ℕ). eqb (t .status) completed && eqb (r .flags) x) (low-bit (t .flags)))
+
+-- an amount is eight bytes
+byte-at : (b : List ℕ) (i j : ℕ) → Bytes b → j < 64 → getD (part 64 i b) j 0 < 256
+byte-at b i j h l = rw (getD-take 64 (drop (i * 64) b) j 0 l, getD-drop) (h (i * 64 + j))
+
+amount-fits : (b : List ℕ) (i : ℕ) → Bytes b → Fits w64 (rowAt b i .m1)
+unfolding decode
+amount-fits b i h = go (ltb i (length b / 64)) refl
+  where
+    go : (t : Bool) → ltb i (length b / 64) ≡ t → Fits w64 (rowAt b i .m1)
+    go true e =
+        let p = part 64 i b in
+        let c0 = byte-at b i 40 h (omega arith) in
+        let c1 = byte-at b i 41 h (omega arith) in
+        let c2 = byte-at b i 42 h (omega arith) in
+        let c3 = byte-at b i 43 h (omega arith) in
+        let c4 = byte-at b i 44 h (omega arith) in
+        let c5 = byte-at b i 45 h (omega arith) in
+        let c6 = byte-at b i 46 h (omega arith) in
+        let c7 = byte-at b i 47 h (omega arith) in
+        rw (rows-at b i (ltb-true i (length b / 64) e)) (record { fits = omega arith })
+    go false e = rw (rows-past b i (ltb-false i (length b / 64) e)) (record { fits = omega arith })
+
+pub due-is : (b : List ℕ) (i : ℕ) → Bytes b → {c : Cash} {p x y : ℕ} {s : Settlement} → c ≡ cashOf (rowAt b i)
+    → p ≡ place (hasKey (aSettlement (c .no .0))) (rows b) → s ≡ settlementOf (rowAt b p)
+    → x ≡ ofZ w64 (s .amount .0) → y ≡ ofZ w64 (c .amount .0)
+    → (eqb (s .cash) 1 && eqb x y) ≡ cashRight (rows b) (rowAt b i)
+unfolding cashOf settlementOf
+due-is b i h {c} {p} {x} {y} {s} ec ep es ex ey =
+    let no : c .no .0 ≡ rowAt b i .id = rw ec in
+    let own : y ≡ rowAt b i .m1 = ey ∙ rw ec (ofZ-toZ (amount-fits b i h)) in
+    let amount : x ≡ rowAt b p .m1 = ex ∙ rw es (ofZ-toZ (amount-fits b p h)) in
+    let row = key-row (aSettlement (c .no .0)) b ep refl in
+    rw (own, amount, es, row, no)

@@ -2,16 +2,29 @@
 // which of the trade's marks is its own.
 ghost use mathlib.Core.Path.{_≡_};
 ghost use mathlib.Core.Bool.{true};
+ghost use Prim.Native.Nat.{_<_};
+ghost use lib.Dec.{leb};
 ghost use Rattle.model.specs.Names.{aTrade};
-ghost use Rattle.model.specs.Rows.{found, rows};
+ghost use Rattle.model.specs.Rows.{found, places, rows};
+ghost use Rattle.shelf.specs.Rows.{rowAt};
 ghost use Rattle.directory.specs.Listed.{Listed};
 ghost use Rattle.clauses.specs.Hung.{fitsTrade, hangs, offset};
 use crate::holding::held;
 use crate::trade::asked;
 use crate::trade::due;
 use crate::trade::settles;
+use kinds::rows::Trade;
+use kinds::rows::TradeHistory;
 use record::codes::Kind;
-use record::row::Row;
+use shelf::place::part;
+
+// The status of the trade history at a place.
+fn past(book: &[u8], i: usize) -> u8
+    requires { ⌜ i < places (now book) ⌝ }
+    ensures { λ r. ⌜ r ≡ rowAt (now (book .entry)) i .status ⌝ }
+{
+    TradeHistory::from_bytes(part(book, i)).status
+}
 
 fn index(status: u8) -> usize
     ensures { λ r. ⌜ r ≡ status ⌝ }
@@ -19,13 +32,14 @@ fn index(status: u8) -> usize
     status as usize
 }
 
-pub fn offset(r: Row) -> usize
-    requires { ⌜ hangs r ≡ true ⌝ }
-    ensures { λ o. ⌜ o ≡ offset r ⌝ }
+// The mark of the row at i, which is of this kind.
+pub fn offset(book: &[u8], kind: u8, i: usize) -> usize
+    requires { ⌜ (i < places (now book)) × (rowAt (now book) i .kind ≡ kind) ⌝ }
+    requires { ⌜ hangs (rowAt (now book) i) ≡ true ⌝ }
+    ensures { λ o. ⌜ o ≡ offset (rowAt (now (book .entry)) i) ⌝ }
 {
-    let kind = r.kind;
     match kind {
-        Kind::TRADE_HISTORY => index(r.status),
+        Kind::TRADE_HISTORY => index(past(book, i)),
         Kind::LOT => 5,
         Kind::SETTLEMENT => 6,
         Kind::CASH => 7,
@@ -33,18 +47,29 @@ pub fn offset(r: Row) -> usize
     }
 }
 
-// A row fits its trade.
-pub fn fits_trade(book: &[u8], dir: &[u16], t: Row, r: Row) -> bool
-    requires { ⌜ Listed (now book) (now dir) ⌝ }
-    requires { ⌜ (hangs r ≡ true) × (t ≡ found (aTrade (r .id)) (rows (now book))) ⌝ }
-    ensures { λ b. ⌜ b ≡ fitsTrade (rows (now (book .entry))) t r ⌝ }
+// The history at i is of a status that its trade, the one at p, has or had.
+fn reached(book: &[u8], p: usize, i: usize) -> bool
+    requires { ⌜ (p < places (now book)) × (i < places (now book)) ⌝ }
+    ensures { λ b. ⌜ b ≡ leb (rowAt (now (book .entry)) i .status) (rowAt (now (book .entry)) p .status) ⌝ }
 {
-    let kind = r.kind;
+    let t = Trade::from_bytes(part(book, p));
+    past(book, i) <= t.status
+}
+
+// The row at i, which is of this kind, fits its trade, the one at p.
+pub fn fits_trade(book: &[u8], dir: &[u16], kind: u8, p: usize, i: usize) -> bool
+    requires { ⌜ Listed (now book) (now dir) × (p < places (now book)) × (i < places (now book)) ⌝ }
+    requires { ⌜ (rowAt (now book) i .kind ≡ kind) × (hangs (rowAt (now book) i) ≡ true) ⌝ }
+    requires { ⌜ rowAt (now book) p ≡ found (aTrade (rowAt (now book) i .id)) (rows (now book)) ⌝ }
+    ensures { λ b.
+        let t = rowAt (now (book .entry)) p in
+        ⌜ b ≡ fitsTrade (rows (now (book .entry))) t (rowAt (now (book .entry)) i) ⌝ }
+{
     match kind {
-        Kind::TRADE_HISTORY => r.status <= t.status,
-        Kind::LOT => held(book, dir, t, r),
-        Kind::SETTLEMENT => settles(t, r),
-        Kind::CASH => due(book, dir, r),
-        _ => asked(book, dir, t, r),
+        Kind::TRADE_HISTORY => reached(book, p, i),
+        Kind::LOT => held(book, dir, p, i),
+        Kind::SETTLEMENT => settles(book, p, i),
+        Kind::CASH => due(book, dir, i),
+        _ => asked(book, dir, p, i),
     }
 }

@@ -1,10 +1,9 @@
 // S3: what a row names is in the book.
 ghost use mathlib.Core.Path.{_≡_};
 ghost use mathlib.Core.Bool.{_&&_};
-ghost use Prim.Native.Nat.{_/_, _<_};
-ghost use lib.ListN.{length};
+ghost use Prim.Native.Nat.{_<_};
 ghost use Rattle.model.specs.Names.{aBroker, aCustomer, aSecurity, aTaxRate, anAccount};
-ghost use Rattle.model.specs.Rows.{rows, there};
+ghost use Rattle.model.specs.Rows.{places, rows, there};
 ghost use Rattle.shelf.specs.Rows.{rowAt};
 ghost use Rattle.directory.specs.Listed.{Listed};
 use directory::typed;
@@ -17,7 +16,7 @@ use shelf::place::part;
 
 // What the customer's rate at a place names.
 pub fn rated(book: &[u8], dir: &[u16], i: usize) -> bool
-    requires { ⌜ Listed (now book) (now dir) × (i < length (now book) / 64) ⌝ }
+    requires { ⌜ Listed (now book) (now dir) × (i < places (now book)) ⌝ }
     ensures { λ r.
         let rs = rows (now (book .entry)) in
         let row = rowAt (now (book .entry)) i in
@@ -30,7 +29,7 @@ pub fn rated(book: &[u8], dir: &[u16], i: usize) -> bool
 
 // What the account at a place names.
 pub fn served(book: &[u8], dir: &[u16], i: usize) -> bool
-    requires { ⌜ Listed (now book) (now dir) × (i < length (now book) / 64) ⌝ }
+    requires { ⌜ Listed (now book) (now dir) × (i < places (now book)) ⌝ }
     ensures { λ r.
         let rs = rows (now (book .entry)) in
         let row = rowAt (now (book .entry)) i in

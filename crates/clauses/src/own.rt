@@ -1,11 +1,10 @@
 // The own rule of a row, by its kind.
 ghost use mathlib.Core.Path.{_≡_};
 ghost use mathlib.Core.Bool.{_&&_, true};
-ghost use Prim.Native.Nat.{_/_, _<_};
-ghost use lib.ListN.{length};
+ghost use Prim.Native.Nat.{_<_};
 ghost use Rattle.record.specs.Codes.{kindSummary, kindTrade};
 ghost use Rattle.model.specs.Names.{aSecurity, anAccount};
-ghost use Rattle.model.specs.Rows.{rows, there};
+ghost use Rattle.model.specs.Rows.{places, rows, there};
 ghost use Rattle.model.specs.Sound.{s1};
 ghost use Rattle.shelf.specs.Rows.{rowAt};
 ghost use Rattle.directory.specs.Listed.{Listed};
@@ -18,48 +17,36 @@ use crate::names::rated;
 use crate::names::served;
 use crate::names::traded;
 use crate::trade::done;
-use kinds::units::AccountNo;
+use kinds::rows::Summary;
 use record::codes::Kind;
-use shelf::place::row_at;
+use shelf::place::part;
 
 // A summary's own rule.
 pub fn kept(book: &[u8], dir: &[u16], i: usize) -> bool
-    requires { ⌜ Listed (now book) (now dir) × (s1 (rows (now book)) ≡ true) ⌝ }
+    requires { ⌜ Listed (now book) (now dir) × (i < places (now book)) × (s1 (rows (now book)) ≡ true) ⌝ }
     ensures { λ b.
         let rs = rows (now (book .entry)) in
         let r = rowAt (now (book .entry)) i in
         ⌜ b ≡ (there (anAccount (r .party)) rs && there (aSecurity (r .symbol)) rs && summaryKept rs r) ⌝ }
 {
-    let s = row_at(book, i);
-    traded(book, dir, AccountNo(s.party), s.symbol) & summed(book, dir, s)
+    let s = Summary::from_bytes(part(book, i));
+    traded(book, dir, s.account, s.symbol) & summed(book, dir, s)
 }
 
 // The own rule of a row that is neither a trade nor a summary. What it tells is not looked for again: the trades of a
 // lot history are completed, so they are in the book.
 pub fn right(book: &[u8], dir: &[u16], kind: u8, i: usize) -> bool
     requires { ⌜ Listed (now book) (now dir) ⌝ }
-    requires { ⌜ (i < length (now book) / 64) × (rowAt (now book) i .kind ≡ kind) ⌝ }
+    requires { ⌜ (i < places (now book)) × (rowAt (now book) i .kind ≡ kind) ⌝ }
     requires { ⌜ (kind ≡ kindTrade → ⊥) × (kind ≡ kindSummary → ⊥) ⌝ }
     ensures { λ b. ⌜ b ≡ ownWell (rows (now (book .entry))) (rowAt (now (book .entry)) i) ⌝ }
 {
     match kind {
-        Kind::FREE => true,
-        Kind::BROKER => true,
         Kind::CUSTOMER => rates_fit(book, dir, i),
-        Kind::TAX_RATE => true,
         Kind::CUSTOMER_RATE => rated(book, dir, i),
         Kind::ACCOUNT => served(book, dir, i),
-        Kind::SECURITY => true,
         Kind::BAND => apart(book, dir, i),
-        Kind::CHARGE => true,
-        Kind::TRADE => true,
-        Kind::REQUEST => true,
-        Kind::TRADE_HISTORY => true,
-        Kind::LOT => true,
-        Kind::SUMMARY => true,
         Kind::LOT_HISTORY => done(book, dir, i),
-        Kind::SETTLEMENT => true,
-        Kind::CASH => true,
         _ => true,
     }
 }

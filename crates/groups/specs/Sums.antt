@@ -3,20 +3,19 @@
 use mathlib.Core.Path.{_≡_, refl, sym, ap, _∙_}
 use mathlib.Core.Bool.{Bool, true, false, cond, _&&_}
 use mathlib.Core.List.{List}
-use Prim.Native.Nat.{ℕ, _+_, _-_, _*_, _/_, _≤_, _<_}
+use Prim.Native.Nat.{ℕ, _+_, _*_, _/_, _≤_, _<_}
 use native.Mathlib.Omega.{arith}
 use lib.Dec.{eqb, leb}
-use lib.IntN.{ℤ, pos, negsuc, natAbs}
-use lib.ListN.{length}
-use mir.Facts.{toZ-pos}
+use lib.IntN.{ℤ, pos, negsuc, natAbs, _+ℤ_, negℤ}
+use lib.ListN.{length, getD}
 use mir.Syntax.{w64}
 use mir.Val.{toZ}
-use borrow.Author.Tests.{eqb-true}
-use Rattle.laws.specs.Search.{bit, total}
-use Rattle.laws.specs.Tests.{and-left, and-right}
+use borrow.Author.Tests.{eqb-true, ltb-true}
+use Rattle.laws.specs.Search.{bit, total, count}
+use Rattle.laws.specs.Tests.{and-left, and-right, and-assoc}
 use Rattle.record.specs.Codes.{kindBand, kindCustomerRate, kindLot, kindRequest}
 use Rattle.rules.specs.Key.{keyOf}
-use Rattle.record.specs.Signed.{up, dn, toZ-high}
+use Rattle.record.specs.Signed.{up, dn}
 use Rattle.rules.specs.declared.key.Key.{Key}
 use Rattle.record.specs.Symbol.{noSymbol, same-symbol, sameSymbol}
 use Rattle.record.specs.declared.row.Row.{Row}
@@ -31,9 +30,20 @@ use Rattle.model.specs.Sound.{lotOf, overlaps, rateOf, s1}
 use Rattle.facts.specs.Rows.{length-rows}
 use Rattle.shelf.specs.Rows.{rowAt}
 use Rattle.chains.specs.Group.{aGroup, groupOf, keyGroup, lotGroup, requestGroup}
-use Rattle.directory.specs.Listed.{Counted, Grouped, only-grouped}
+use Rattle.directory.specs.Listed.{Counted, Grouped, only-grouped, Listed, Tallied, tally-all, tally-more, places}
 use Rattle.facts.specs.Names.{ofParty}
 use Rattle.laws.specs.Place.{every-at}
+use lib.Signed.{ltZ}
+use Rattle.kinds.specs.Kinds.{bandOf, customerRateOf, taxRateOf}
+use Rattle.kinds.specs.Kinds as kinds
+use Rattle.kinds.specs.Units.{shares}
+use Rattle.kinds.specs.declared.rows.Band.{Band}
+use Rattle.kinds.specs.declared.units.Shares.{Shares}
+use Rattle.chains.specs.Chains.{half}
+use Rattle.record.specs.Grid.{decode}
+use Rattle.kinds.specs.declared.rows.CustomerRate.{CustomerRate}
+use Rattle.kinds.specs.declared.rows.TaxRate.{TaxRate}
+use Rattle.kinds.specs.declared.rows.Lot.{Lot}
 
 -- ---- the groups that are walked
 abbrev pub bandGroup : ℕ → ℕ → ℕ → Key
@@ -41,6 +51,11 @@ bandGroup form tier exchange = aGroup kindBand form tier exchange 0 0 noSymbol
 
 abbrev pub rateGroup : ℕ → Key
 rateGroup customer = aGroup kindCustomerRate 0 0 0 customer 0 noSymbol
+
+-- the kind of a record's bytes
+pub kind-byte : (l : List ℕ) {r : Row} → decode l ≡ r → getD l 0 0 ≡ r .kind
+unfolding decode
+kind-byte l e = ap (λ (r : Row). r .kind) e
 
 -- of the tests of a band, those that tell its group
 band-tests : (kind form tier exchange x y : Bool) → (kind && form && tier && exchange && x && y) ≡ true
@@ -76,20 +91,55 @@ both-eq a x b y e =
     (eqb-true a x (and-left (eqb a x) (eqb b y) e), eqb-true b y (and-right (eqb a x) (eqb b y) e))
 
 -- ---- bands
-overlaps-grouped : (a : Row) → Grouped (overlaps a) (bandGroup (a .form) (a .status) (a .flags))
-overlaps-grouped a = record {
+-- two bands have shares in common; and a band and a row
+abbrev pub meet : Band → Band → Bool
+meet a b =
+    eqb (a .«trade_type») (b .«trade_type») && eqb (a .tier) (b .tier) && eqb (a .exchange) (b .exchange)
+    && leb (up (a .from .0)) (up (b .to .0)) && leb (up (b .from .0)) (up (a .to .0))
+
+unfoldable pub meets : Band → Row → Bool
+meets a r = is kindBand r && meet a (bandOf r)
+
+pub meets-at : (a : Band) (r : Row) {k : ℕ} {x : Band} {t : Bool} → k ≡ r .kind → x ≡ bandOf r → t ≡ meet a x
+    → (eqb k kindBand && t) ≡ meets a r
+unfolding meets
+meets-at a r e h q = rw (q, h, e)
+
+meets-grouped : (a : Band) → Grouped (meets a) (bandGroup (a .«trade_type») (a .tier) (a .exchange))
+unfolding meets bandOf
+meets-grouped a = record {
   all = λ r e.
-      let h = band-tests (is kindBand r) (eqb (a .form) (r .form)) (eqb (a .status) (r .status))
-      (eqb (a .flags) (r .flags)) (leb (a .n1) (r .n2)) (leb (r .n1) (a .n2)) e in
-      band-group (a .form) (a .status) (a .flags) r (eqb-true (r .kind) kindBand (h .0))
-      (sym (eqb-true (a .form) (r .form) (h .1))) (sym (eqb-true (a .status) (r .status) (h .2)))
-      (sym (eqb-true (a .flags) (r .flags) (h .3)));
+      let f = eqb (a .«trade_type») (r .form) in
+      let t = eqb (a .tier) (r .status) in
+      let x = eqb (a .exchange) (r .flags) in
+      let y = leb (up (a .from .0)) (r .n2) in
+      let z = leb (r .n1) (up (a .to .0)) in
+      let kind = and-left (is kindBand r) (f && t && x && y && z) e in
+      let rest = and-right (is kindBand r) (f && t && x && y && z) e in
+      let h = and-left (f && t && x) y (and-left (f && t && x && y) z rest) in
+      let ft = and-left (f && t) x h in
+      band-group (a .«trade_type») (a .tier) (a .exchange) r (eqb-true (r .kind) kindBand kind)
+      (sym (eqb-true (a .«trade_type») (r .form) (and-left f t ft)))
+      (sym (eqb-true (a .tier) (r .status) (and-right f t ft)))
+      (sym (eqb-true (a .exchange) (r .flags) (and-right (f && t) x h)));
 }
 
-pub bands-counted : (a : Row) → Counted (λ r. bit (overlaps a r)) 1 (bandGroup (a .form) (a .status) (a .flags))
+pub bands-counted : (a : Band) → Counted (λ r. bit (meets a r)) 1 (bandGroup (a .«trade_type») (a .tier) (a .exchange))
 bands-counted a =
-    only-grouped (overlaps a) (λ r. bit (overlaps a r)) 1 (bandGroup (a .form) (a .status) (a .flags))
-    (overlaps-grouped a) (λ r q. rw q)
+    only-grouped (meets a) (λ r. bit (meets a r)) 1 (bandGroup (a .«trade_type») (a .tier) (a .exchange))
+    (meets-grouped a) (λ r q. rw q)
+
+meets-is : (a r : Row) → meets (bandOf a) r ≡ overlaps a r
+unfolding meets bandOf
+meets-is a r = go (is kindBand r) refl
+  where
+    go : (t : Bool) → is kindBand r ≡ t → (is kindBand r && meet (bandOf a) (bandOf r)) ≡ overlaps a r
+    go true h = rw h
+    go false h = rw h
+
+pub overlaps-counted : (rs : List Row) (a : Row) {x : Band} → x ≡ bandOf a
+    → count (meets x) rs ≡ count (overlaps a) rs
+overlaps-counted rs a e = rw e (λ j. count (λ y. meets-is a y j) rs)
 
 pub band-grouped : (f t x n : ℕ) → Grouped (bandFor f t x n) (bandGroup f t x)
 band-grouped f t x n = record {
@@ -110,13 +160,22 @@ rates-counted rs customer =
     })
     (λ r q. rw q)
 
-pub rate-yes : (rs : List Row) (customer : ℕ) (r : Row) {x : ℕ} {t : Row} → ofParty kindCustomerRate customer r ≡ true
-    → t ≡ found (aTaxRate (r .n1)) rs → x ≡ t .n1 → x ≡ rateOf rs customer r
-rate-yes rs customer r e h q = rw e (q ∙ ap (λ (u : Row). u .n1) h)
+module _ (rs : List Row) (customer : ℕ) (r : Row) {k : ℕ} {x : CustomerRate} (kind : k ≡ r .kind)
+    (is-x : x ≡ customerRateOf r) where
+  rate-test : (eqb k kindCustomerRate && eqb (x .customer .0) customer) ≡ ofParty kindCustomerRate customer r
+  unfolding customerRateOf
+  rate-test = rw (is-x, kind)
 
-pub rate-no : (rs : List Row) (customer : ℕ) (r : Row) → ofParty kindCustomerRate customer r ≡ false
-    → 0 ≡ rateOf rs customer r
-rate-no rs customer r e = rw e
+  pub rate-yes : {t : TaxRate} {y : ℕ} → (eqb k kindCustomerRate && eqb (x .customer .0) customer) ≡ true
+      → t ≡ taxRateOf (found (aTaxRate (x .rate .0)) rs) → y ≡ t .rate .0 → y ≡ rateOf rs customer r
+  unfolding customerRateOf taxRateOf
+  rate-yes e h q =
+      let rate : x .rate .0 ≡ r .n1 = rw is-x in
+      rw (sym rate-test ∙ e) (q ∙ rw (h, rate))
+
+  pub rate-no : (eqb k kindCustomerRate && eqb (x .customer .0) customer) ≡ false
+      → 0 ≡ rateOf rs customer r
+  rate-no e = rw (sym rate-test ∙ e)
 
 -- ---- shares
 -- a signed number's distance from zero where it is on this side of it, and 0 on the other
@@ -127,9 +186,13 @@ side false x = up (toZ w64 x)
 abbrev pub sharesPart : Bool → ℕ → Symbol → Row → ℕ
 sharesPart owed account symbol r = cond (lotOf account symbol r) (side owed (r .m1)) 0
 
--- x is the sum over a book's rows, which are few
-abbrev pub HoldsSide : Bool → ℕ → Symbol → List Row → ℕ → Type 0
-HoldsSide owed account symbol rs x = (x ≡ total (sharesPart owed account symbol) rs) × (x ≤ sharesMost * mostRecords)
+-- what a row adds to a side, and the sum over the rows, as shares
+abbrev pub AddsSide : Bool → ℕ → Symbol → Row → Shares → Type 0
+AddsSide owed account symbol r x = (x .0 ≡ pos (sharesPart owed account symbol r)) × (natAbs (x .0) ≤ sharesMost)
+
+abbrev pub HoldsSide : Bool → ℕ → Symbol → List Row → Shares → Type 0
+HoldsSide owed account symbol rs x =
+    (x .0 ≡ pos (total (sharesPart owed account symbol) rs)) × (natAbs (x .0) ≤ sharesMost * mostRecords)
 
 pub lots-grouped : (account : ℕ) (symbol : Symbol) → Grouped (lotOf account symbol) (lotGroup account symbol)
 lots-grouped account symbol = record {
@@ -140,52 +203,66 @@ lots-grouped account symbol = record {
       (same-symbol (r .symbol) symbol (and-right x (sameSymbol (r .symbol) symbol) e));
 }
 
+-- a row is a lot of the holding
+pub lot-told : (account : ℕ) (symbol : Symbol) (r : Row) {k : ℕ} {x : Lot} {t : Bool} → k ≡ r .kind
+    → x ≡ kinds.lotOf r → t ≡ (eqb (x .account .0) account && sameSymbol (x .symbol) symbol)
+    → (eqb k kindLot && t) ≡ lotOf account symbol r
+unfolding kinds.lotOf
+lot-told account symbol r e h q =
+    rw (q, h, e)
+    ((and-assoc (is kindLot r) (eqb (r .party) account) (sameSymbol (r .symbol) symbol)))
+
+pub lot-amount : (r : Row) {x : Lot} → x ≡ kinds.lotOf r → x .shares .0 ≡ toZ w64 (r .m1)
+unfolding kinds.lotOf
+lot-amount r h = rw h
+
 pub shares-counted : (owed : Bool) (account : ℕ) (symbol : Symbol)
     → Counted (sharesPart owed account symbol) sharesMost (lotGroup account symbol)
 shares-counted owed account symbol =
     only-grouped (lotOf account symbol) (sharesPart owed account symbol) sharesMost (lotGroup account symbol)
     (lots-grouped account symbol) (λ r q. rw q)
 
--- the two sides by the bits
-pub side-above : (x : ℕ) → x < 9223372036854775808 → (x ≡ side false x) × (0 ≡ side true x)
-side-above x h = let e = toZ-pos w64 {n = x} h in (rw e, rw e)
-
-pub side-below : (x : ℕ) → 9223372036854775808 ≤ x → x ≤ 18446744073709551615
-    → (0 ≡ side false x) × (18446744073709551615 - x + 1 ≡ side true x)
-side-below x h k = let e = toZ-high w64 x h in (rw e, rw e (omega arith))
-
-most-up : (z : ℤ) (m : ℕ) → natAbs z ≤ m → up z ≤ m
-most-up (pos n) m h = h
-most-up (negsuc n) m h = omega arith
-
-most-dn : (z : ℤ) (m : ℕ) → natAbs z ≤ m → dn z ≤ m
-most-dn (pos n) m h = omega arith
-most-dn (negsuc n) m h = h
-
-side-most : (owed : Bool) (x m : ℕ) → natAbs (toZ w64 x) ≤ m → side owed x ≤ m
-side-most true x m h = most-dn (toZ w64 x) m h
-side-most false x m h = most-up (toZ w64 x) m h
-
 -- the shares of a lot that fits the grid are in their range
 lot-most : (r : Row) → r .kind ≡ kindLot → fits r ≡ true → natAbs (toZ w64 (r .m1)) ≤ sharesMost
 lot-most r k e = means-lot r .shows (as-kind kindLot r k ∙ e) .0 .1
 
 -- a lot's part in a holding of its account and symbol, and in any other
-pub part-yes : (owed : Bool) (account : ℕ) (symbol : Symbol) (r : Row) {t : Bool} {x : ℕ} → fits r ≡ true
-    → t ≡ lotOf account symbol r → t ≡ true → x ≡ side owed (r .m1)
-    → (x ≡ sharesPart owed account symbol r) × (x ≤ sharesMost)
-part-yes owed account symbol r f h e q =
-    let yes = sym h ∙ e in
+pub lot-size : (account : ℕ) (symbol : Symbol) (r : Row) → fits r ≡ true → lotOf account symbol r ≡ true
+    → natAbs (toZ w64 (r .m1)) ≤ sharesMost
+lot-size account symbol r f here =
     let k = and-left (is kindLot r) (eqb (r .party) account)
-    (and-left (is kindLot r && eqb (r .party) account) (sameSymbol (r .symbol) symbol) yes)
+    (and-left (is kindLot r && eqb (r .party) account) (sameSymbol (r .symbol) symbol) here)
     in
-    let m = side-most owed (r .m1) sharesMost (lot-most r (eqb-true (r .kind) kindLot k) f) in
-    (rw yes q, rw q m)
+    lot-most r (eqb-true (r .kind) kindLot k) f
 
-pub part-no : (owed : Bool) (account : ℕ) (symbol : Symbol) (r : Row) {t : Bool} → t ≡ lotOf account symbol r
-    → t ≡ false
-    → 0 ≡ sharesPart owed account symbol r
-part-no owed account symbol r h e = rw (sym h ∙ e)
+sides-below : (z : ℤ) → ltZ z (pos 0) ≡ true → (pos 0 ≡ pos (up z)) × (negℤ z ≡ pos (dn z))
+sides-below (pos n) e = let h : ⊥ = omega (arith, ltb-true n 0 e) in absurd h
+sides-below (negsuc n) e = (refl, refl)
+
+sides-above : (z : ℤ) → ltZ z (pos 0) ≡ false → (z ≡ pos (up z)) × (pos 0 ≡ pos (dn z))
+sides-above (pos n) e = (refl, refl)
+sides-above (negsuc n) e = let z : _≡_ {A = ℕ} 0 1 = cc in absurd (omega arith)
+
+module _ (account : ℕ) (symbol : Symbol) (r : Row) where
+  pub adds-none : (owed : Bool) → lotOf account symbol r ≡ false → AddsSide owed account symbol r (shares (pos 0))
+  adds-none owed e = (rw e, omega arith)
+
+  module _ {x : Shares} (fit : fits r ≡ true) (mine : lotOf account symbol r ≡ true)
+      (is-x : x .0 ≡ toZ w64 (r .m1)) where
+    pub adds-size : natAbs (x .0) ≤ sharesMost
+    adds-size = rw is-x (lot-size account symbol r fit mine)
+
+    pub adds-owed : {y : Shares} → ltZ (x .0) (pos 0) ≡ true → y .0 ≡ negℤ (x .0) → natAbs (y .0) ≡ natAbs (x .0)
+        → AddsSide false account symbol r (shares (pos 0)) × AddsSide true account symbol r y
+    adds-owed e is-y size =
+        let z = sides-below (toZ w64 (r .m1)) (rw is-x at e) in
+        ((rw mine (z .0), omega arith), (rw (is-y, is-x, mine) (z .1), rw size adds-size))
+
+    pub adds-long : ltZ (x .0) (pos 0) ≡ false
+        → AddsSide false account symbol r x × AddsSide true account symbol r (shares (pos 0))
+    adds-long e =
+        let z = sides-above (toZ w64 (r .m1)) (rw is-x at e) in
+        ((rw (is-x, mine) (z .0), adds-size), (rw mine (z .1), omega arith))
 
 pub lots-counted : (account : ℕ) (symbol : Symbol)
     → Counted (λ r. bit (lotOf account symbol r)) 1 (lotGroup account symbol)
@@ -218,14 +295,38 @@ fits-there b c e h q = rw q (every-at fits nothing (rows b) c e (rw length-rows 
 pub same-bit : {x : ℕ} {y z : Bool} → x ≡ bit y → y ≡ z → x ≡ bit z
 same-bit e h = e ∙ ap bit h
 
-pub bit-yes : (t : Bool) {x : Bool} → x ≡ t → x ≡ true → 1 ≡ bit t
-bit-yes t e h = rw (← e, h)
+pub bit-yes : (t : Bool) → t ≡ true → 1 ≡ bit t
+bit-yes t e = rw e
 
-pub bit-no : (t : Bool) {x : Bool} → x ≡ t → x ≡ false → 0 ≡ bit t
-bit-no t e h = rw (← e, h)
+pub bit-no : (t : Bool) → t ≡ false → 0 ≡ bit t
+bit-no t e = rw e
 
--- a lot is of the group of its account and symbol
-pub own-lots : (b : List ℕ) (i : ℕ) (r : Row) → is kindLot r ≡ true → r ≡ rowAt b i
-    → groupOf (rowAt b i) ≡ lotGroup (r .party) (r .symbol)
-own-lots b i r e q =
-    ap groupOf (sym q) ∙ lot-group (r .party) (r .symbol) r (eqb-true (r .kind) kindLot e) refl refl
+-- ---- the shares of one side, gathered along the chain
+pub record Gathered (owed : Bool) (account : ℕ) (symbol : Symbol) (b d : List ℕ) (x : Shares) (c : ℕ) : Type 0 where
+  pub sum : Tallied (sharesPart owed account symbol) sharesMost (lotGroup account symbol) b d
+      (total (sharesPart owed account symbol) (rows b)) (up (x .0)) c
+  pub whole : x .0 ≡ pos (up (x .0))
+
+size-up : (z : ℤ) → z ≡ pos (up z) → natAbs z ≡ up z
+size-up z e = ap natAbs e
+
+module _ {owed : Bool} {account : ℕ} {symbol : Symbol} {b d : List ℕ} {x : Shares} {c : ℕ}
+    (g : Gathered owed account symbol b d x c) where
+  pub gather-size : places b ≤ mostRecords → natAbs (x .0) ≤ sharesMost * mostRecords
+  gather-size few =
+      let small = g .sum .small in
+      let within = g .sum .within in
+      let e = size-up (x .0) (g .whole) in
+      omega arith
+
+  pub gather-more : {y z : Shares} {u : ℕ} → Listed b d → c < places b → AddsSide owed account symbol (rowAt b c) y
+      → z ≡ shares (x .0 +ℤ y .0) → u ≡ getD d (half d + c) 0 → Gathered owed account symbol b d z u
+  gather-more {y} {z} s h a e q =
+      let p = sharesPart owed account symbol (rowAt b c) in
+      let few : p ≤ sharesMost = rw (a .0) at (a .1) in
+      let both : x .0 +ℤ y .0 ≡ pos (up (x .0)) +ℤ pos p = λ i. g .whole i +ℤ a .0 i in
+      let total-is : z .0 ≡ pos (up (x .0) + p) = ap (λ (v : Shares). v .0) e ∙ both in
+      record { sum = rw total-is (tally-more (g .sum) s h refl refl few q); whole = rw total-is }
+
+  pub gather-all : places b ≤ mostRecords → places b ≤ c → HoldsSide owed account symbol (rows b) x
+  gather-all few e = (g .whole ∙ ap pos (tally-all (g .sum) e), gather-size few)

@@ -1,33 +1,39 @@
 // The commission band of so many shares, and its rate.
 ghost use mathlib.Core.Path.{_≡_};
+ghost use Prim.Native.Nat.{_<_};
 ghost use Rattle.laws.specs.Search.{place};
 ghost use Rattle.record.specs.Signed.{up};
 ghost use Rattle.model.specs.Band.{bandFor, bandRate};
-ghost use Rattle.model.specs.Rows.{rows};
+ghost use Rattle.model.specs.Rows.{places, rows};
+ghost use Rattle.shelf.specs.Rows.{rowAt};
 ghost use Rattle.directory.specs.Listed.{Listed};
 use chains::chain::next;
 use chains::group;
 use kinds::rows::Band;
 use kinds::units::PerTenThousand;
 use kinds::units::Shares;
-use record::bytes::wide32;
 use record::codes::Kind;
 use record::row::Grid;
-use record::row::Row;
 use record::symbol::Symbol;
+use shelf::place::part;
 use shelf::place::record_at;
-use shelf::place::row_at;
 
-fn holds(form: u8, tier: u8, exchange: u8, shares: Shares, r: Row) -> bool
-    ensures { λ b. ⌜ b ≡ bandFor form tier exchange (up (shares .0)) r ⌝ }
+// The record at a place is the band that holds the shares.
+fn holds(book: &[u8], form: u8, tier: u8, exchange: u8, shares: Shares, at: usize) -> bool
+    requires { ⌜ at < places (now book) ⌝ }
+    ensures { λ b. ⌜ b ≡ bandFor form tier exchange (up (shares .0)) (rowAt (now (book .entry)) at) ⌝ }
 {
+    let record = part(book, at);
+    let band = Band::from_bytes(record);
+    let from = band.from;
+    let to = band.to;
     let many = shares.plain();
-    (r.kind == Kind::BAND)
-        & (r.form == form)
-        & (r.status == tier)
-        & (r.flags == exchange)
-        & (wide32(r.n1) <= many)
-        & (many <= wide32(r.n2))
+    (record[Grid::KIND] == Kind::BAND)
+        & (band.trade_type == form)
+        & (band.tier == tier)
+        & (band.exchange == exchange)
+        & (from.plain() <= many)
+        & (many <= to.plain())
 }
 
 // The place of the band that holds the shares, the number of places where there is none.
@@ -39,7 +45,7 @@ pub fn band(book: &[u8], dir: &[u16], form: u8, tier: u8, exchange: u8, shares: 
     let bands = group::of_fields(Kind::BAND, form, tier, exchange, 0, 0, Symbol::NONE);
     let mut c = group::first(dir, bands);
     while c < n {
-        if holds(form, tier, exchange, shares, row_at(book, c)) {
+        if holds(book, form, tier, exchange, shares, c) {
             return c;
         }
         c = next(dir, c);

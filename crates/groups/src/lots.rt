@@ -1,26 +1,40 @@
 // The lots of an account and symbol, in turn.
 ghost use mathlib.Core.Path.{_≡_};
-ghost use mathlib.Core.Bool.{true};
+ghost use mathlib.Core.Bool.{_&&_, true};
 ghost use Prim.Native.Nat.{_+_, _<_};
+ghost use lib.Dec.{eqb};
 ghost use lib.ListN.{drop};
 ghost use Rattle.laws.specs.Search.{place, seek};
-ghost use Rattle.model.specs.Rows.{rows};
+ghost use Rattle.record.specs.Symbol.{sameSymbol};
+ghost use Rattle.model.specs.Rows.{places, rows};
 ghost use Rattle.model.specs.Sound.{lotOf};
 ghost use Rattle.shelf.specs.Rows.{rowAt};
-ghost use Rattle.directory.specs.Listed.{Listed, places};
+ghost use Rattle.directory.specs.Listed.{Listed};
 use crate::turn::first_of;
 use crate::turn::next_of;
 use chains::group;
+use kinds::rows::Lot;
 use kinds::units::AccountNo;
 use record::codes::Kind;
-use record::row::Row;
+use record::row::Grid;
 use record::symbol::Symbol;
+use shelf::place::part;
 
-pub fn held(account: u32, symbol: Symbol, r: Row) -> bool
-    ensures { λ b. ⌜ b ≡ lotOf account symbol r ⌝ }
+// A lot is of an account and symbol.
+pub fn in_holding(account: AccountNo, symbol: Symbol, lot: Lot) -> bool
+    ensures { λ b. ⌜ b ≡ (eqb (lot .account .0) (account .0) && sameSymbol (lot .symbol) symbol) ⌝ }
 {
-    let own = r.symbol;
-    (r.kind == Kind::LOT) & (r.party == account) & own.same(symbol)
+    let own = lot.symbol;
+    (lot.account.0 == account.0) & own.same(symbol)
+}
+
+// The record at a place is a lot of an account and symbol.
+pub fn held(book: &[u8], account: AccountNo, symbol: Symbol, at: usize) -> bool
+    requires { ⌜ at < places (now book) ⌝ }
+    ensures { λ b. ⌜ b ≡ lotOf (account .0) symbol (rowAt (now (book .entry)) at) ⌝ }
+{
+    let record = part(book, at);
+    (record[Grid::KIND] == Kind::LOT) & in_holding(account, symbol, Lot::from_bytes(record))
 }
 
 // The place of the first lot, the number of places where there is none.

@@ -4,22 +4,28 @@ ghost use mathlib.Core.Bool.{true};
 ghost use Prim.Native.Nat.{_+_, _<_};
 ghost use lib.ListN.{drop};
 ghost use Rattle.laws.specs.Search.{place, seek};
-ghost use Rattle.model.specs.Rows.{rows};
+ghost use Rattle.model.specs.Rows.{places, rows};
 ghost use Rattle.shelf.specs.Rows.{rowAt};
-ghost use Rattle.directory.specs.Listed.{Listed, places};
+ghost use Rattle.directory.specs.Listed.{Listed};
 ghost use Rattle.groups.specs.Sums.{requestOn};
 use crate::turn::first_of;
 use crate::turn::next_of;
 use chains::group;
+use kinds::rows::Request;
 use record::codes::Kind;
-use record::row::Row;
+use record::row::Grid;
 use record::symbol::Symbol;
+use shelf::place::part;
 
-pub fn asked(symbol: Symbol, r: Row) -> bool
-    ensures { λ b. ⌜ b ≡ requestOn symbol r ⌝ }
+// The record at a place is a request on a symbol.
+pub fn asked(book: &[u8], symbol: Symbol, at: usize) -> bool
+    requires { ⌜ at < places (now book) ⌝ }
+    ensures { λ b. ⌜ b ≡ requestOn symbol (rowAt (now (book .entry)) at) ⌝ }
 {
-    let own = r.symbol;
-    (r.kind == Kind::REQUEST) & own.same(symbol)
+    let record = part(book, at);
+    let request = Request::from_bytes(record);
+    let own = request.symbol;
+    (record[Grid::KIND] == Kind::REQUEST) & own.same(symbol)
 }
 
 // The place of the first request, the number of places where there is none.

@@ -1,71 +1,98 @@
 // Counts and sums over the rows of one group.
 ghost use mathlib.Core.Path.{_≡_};
 ghost use mathlib.Core.Bool.{false, true};
-ghost use Prim.Native.Nat.{_≤_};
+ghost use Prim.Native.Nat.{_≤_, _<_};
+ghost use lib.IntN.{pos};
+ghost use lib.Signed.{ltZ};
 ghost use Rattle.laws.specs.Search.{bit, count};
-ghost use Rattle.rules.specs.Ranges.{sharesMost, taxPart};
+ghost use Rattle.rules.specs.Ranges.{taxPart};
 ghost use Rattle.rules.specs.Rules.{fits};
-ghost use Rattle.model.specs.Rows.{rows};
+ghost use Rattle.model.specs.Rows.{places, rows};
 ghost use Rattle.model.specs.Sound.{lotOf, overlaps, rateOf, ratesOf, s1};
+ghost use Rattle.shelf.specs.Rows.{rowAt};
 ghost use Rattle.directory.specs.Listed.{Listed};
-ghost use Rattle.groups.specs.Sums.{HoldsSide, sharesPart, side};
-use crate::lots::held;
+ghost use Rattle.groups.specs.Sums.{AddsSide, HoldsSide, meet, meets};
+use crate::lots::in_holding;
 use chains::chain::next;
 use chains::group;
 use directory::typed::tax_rate;
+use kinds::rows::Band;
+use kinds::rows::CustomerRate;
+use kinds::rows::Lot;
+use kinds::rows::TaxRate;
 use kinds::units::AccountNo;
 use kinds::units::CustomerNo;
 use kinds::units::PerHundredThousand;
-use kinds::units::RateNo;
+use kinds::units::Shares;
 use record::bytes::wide32;
 use record::codes::Kind;
 use record::row::Grid;
-use record::row::Row;
 use record::symbol::Symbol;
 use shelf::count::bit;
-use shelf::place::row_at;
+use shelf::place::part;
+use shelf::place::record_at;
 
-fn overlap(a: Row, b: Row) -> bool
-    ensures { λ r. ⌜ r ≡ overlaps a b ⌝ }
+// Two bands have shares in common.
+fn overlap(a: Band, b: Band) -> bool
+    ensures { λ r. ⌜ r ≡ meet a b ⌝ }
 {
-    (b.kind == Kind::BAND)
-        & (a.form == b.form)
-        & (a.status == b.status)
-        & (a.flags == b.flags)
-        & (a.n1 <= b.n2)
-        & (b.n1 <= a.n2)
+    let from = a.from;
+    let to = a.to;
+    let other_from = b.from;
+    let other_to = b.to;
+    (a.trade_type == b.trade_type)
+        & (a.tier == b.tier)
+        & (a.exchange == b.exchange)
+        & (from.plain() <= other_to.plain())
+        & (other_from.plain() <= to.plain())
 }
 
-// How many bands overlap a band, itself among them.
-pub fn overlapping(book: &[u8], dir: &[u16], band: Row) -> usize
-    requires { ⌜ Listed (now book) (now dir) ⌝ }
-    ensures { λ r. ⌜ r ≡ count (overlaps band) (rows (now (book .entry))) ⌝ }
+// The record at a place is a band that overlaps this one.
+fn overlaps(book: &[u8], band: Band, at: usize) -> bool
+    requires { ⌜ at < places (now book) ⌝ }
+    ensures { λ r. ⌜ r ≡ meets band (rowAt (now (book .entry)) at) ⌝ }
+{
+    let record = part(book, at);
+    (record[Grid::KIND] == Kind::BAND) & overlap(band, Band::from_bytes(record))
+}
+
+// How many bands overlap the one at a place, itself among them.
+pub fn overlapping(book: &[u8], dir: &[u16], i: usize) -> usize
+    requires { ⌜ Listed (now book) (now dir) × (i < places (now book)) ⌝ }
+    ensures { λ r. ⌜ r ≡ count (overlaps (rowAt (now (book .entry)) i)) (rows (now (book .entry))) ⌝ }
 {
     let n = book.len() / Grid::SIZE;
+    let band = Band::from_bytes(part(book, i));
     let mut sum = 0;
     let bands = group::of_fields(
         Kind::BAND,
-        band.form,
-        band.status,
-        band.flags,
+        band.trade_type,
+        band.tier,
+        band.exchange,
         0,
         0,
         Symbol::NONE,
     );
     let mut c = group::first(dir, bands);
     while c < n {
-        sum += bit(overlap(band, row_at(book, c)));
+        sum += bit(overlaps(book, band, c));
         c = next(dir, c);
     }
     sum
 }
 
-fn rate(book: &[u8], dir: &[u16], customer: u32, row: Row) -> u64
-    requires { ⌜ Listed (now book) (now dir) ⌝ }
-    ensures { λ r. ⌜ (r ≡ rateOf (rows (now (book .entry))) customer row) × (r ≤ 4294967295) ⌝ }
+// What the record at a place adds to a customer's rates.
+fn rate(book: &[u8], dir: &[u16], customer: CustomerNo, at: usize) -> u64
+    requires { ⌜ Listed (now book) (now dir) × (at < places (now book)) ⌝ }
+    ensures { λ r. ⌜
+        (r ≡ rateOf (rows (now (book .entry))) (customer .0) (rowAt (now (book .entry)) at)) × (r ≤ 4294967295)
+        ⌝ }
 {
-    if (row.kind == Kind::CUSTOMER_RATE) & (row.party == customer) {
-        return wide32(row_at(book, tax_rate(book, dir, RateNo(row.n1))).n1);
+    let record = part(book, at);
+    let named = CustomerRate::from_bytes(record);
+    if (record[Grid::KIND] == Kind::CUSTOMER_RATE) & (named.customer.0 == customer.0) {
+        let bytes = record_at(book, tax_rate(book, dir, named.rate));
+        return wide32(TaxRate::from_bytes(&bytes).rate.0);
     }
     0
 }
@@ -80,7 +107,7 @@ pub fn rates(book: &[u8], dir: &[u16], customer: CustomerNo) -> u64
     let named = group::of_fields(Kind::CUSTOMER_RATE, 0, 0, 0, customer.0, 0, Symbol::NONE);
     let mut c = group::first(dir, named);
     while c < n {
-        sum += rate(book, dir, customer.0, row_at(book, c));
+        sum += rate(book, dir, customer, c);
         c = next(dir, c);
     }
     sum
@@ -95,47 +122,47 @@ pub fn tax_rates(book: &[u8], dir: &[u16], customer: CustomerNo) -> PerHundredTh
     PerHundredThousand(rates(book, dir, customer) as u32)
 }
 
-// How far a signed number is from zero if it is below it, for what is owed, or above it, for what is not; else 0.
-pub fn side(owed: bool, x: u64) -> u64
-    ensures { λ r. ⌜ (r ≡ side owed x) × (r ≤ 9223372036854775808) ⌝ }
-{
-    if x < 9_223_372_036_854_775_808 {
-        if owed {
-            return 0;
-        }
-        return x;
-    }
-    if owed {
-        return 18_446_744_073_709_551_615 - x + 1;
-    }
-    0
-}
-
 // A holding: how many lots, and the shares held and owed.
 pub struct Held {
     pub lots: usize,
-    pub long: u64,
-    pub owed: u64,
+    pub long: Shares,
+    pub owed: Shares,
 }
 
-// What a row adds to a holding.
-fn part(account: u32, symbol: Symbol, row: Row) -> Held
-    requires { ⌜ fits row ≡ true ⌝ }
-    ensures { λ r. ⌜ (r .lots ≡ bit (lotOf account symbol row)) × (r .lots ≤ 1) ⌝ }
-    ensures { λ r. ⌜ (r .long ≡ sharesPart false account symbol row) × (r .long ≤ sharesMost) ⌝ }
-    ensures { λ r. ⌜ (r .owed ≡ sharesPart true account symbol row) × (r .owed ≤ sharesMost) ⌝ }
+fn below_zero(shares: Shares) -> bool
+    ensures { λ r. ⌜ r ≡ ltZ (shares .0) (pos 0) ⌝ }
 {
-    if held(account, symbol, row) {
+    shares.0 < 0
+}
+
+// What the record at a place adds to a holding.
+fn added(book: &[u8], account: AccountNo, symbol: Symbol, at: usize) -> Held
+    requires { ⌜ (at < places (now book)) × (fits (rowAt (now book) at) ≡ true) ⌝ }
+    ensures { λ r. ⌜ (r .lots ≡ bit (lotOf (account .0) symbol (rowAt (now (book .entry)) at))) × (r .lots ≤ 1) ⌝ }
+    ensures { λ r. ⌜ AddsSide false (account .0) symbol (rowAt (now (book .entry)) at) (r .long) ⌝ }
+    ensures { λ r. ⌜ AddsSide true (account .0) symbol (rowAt (now (book .entry)) at) (r .owed) ⌝ }
+{
+    let record = part(book, at);
+    let lot = Lot::from_bytes(record);
+    if (record[Grid::KIND] == Kind::LOT) & in_holding(account, symbol, lot) {
+        let shares = lot.shares;
+        if below_zero(shares) {
+            return Held {
+                lots: 1,
+                long: Shares(0),
+                owed: shares.negated(),
+            };
+        }
         return Held {
             lots: 1,
-            long: side(false, row.m1),
-            owed: side(true, row.m1),
+            long: shares,
+            owed: Shares(0),
         };
     }
     Held {
         lots: 0,
-        long: 0,
-        owed: 0,
+        long: Shares(0),
+        owed: Shares(0),
     }
 }
 
@@ -148,15 +175,15 @@ pub fn holding(book: &[u8], dir: &[u16], account: AccountNo, symbol: Symbol) -> 
 {
     let n = book.len() / Grid::SIZE;
     let mut many = 0;
-    let mut long = 0;
-    let mut owed = 0;
+    let mut long = Shares(0);
+    let mut owed = Shares(0);
     let lots = group::of_fields(Kind::LOT, 0, 0, 0, account.0, 0, symbol);
     let mut at = group::first(dir, lots);
     while at < n {
-        let more = part(account.0, symbol, row_at(book, at));
+        let more = added(book, account, symbol, at);
         many += more.lots;
-        long += more.long;
-        owed += more.owed;
+        long = long.plus(more.long);
+        owed = owed.plus(more.owed);
         at = next(dir, at);
     }
     Held {

@@ -5,27 +5,28 @@ ghost use mathlib.Core.Bool.{true};
 ghost use Prim.Native.Nat.{_+_, _<_};
 ghost use lib.ListN.{drop};
 ghost use Rattle.laws.specs.Search.{place, seek};
-ghost use Rattle.model.specs.Rows.{rows};
+ghost use Rattle.model.specs.Rows.{places, rows};
 ghost use Rattle.shelf.specs.Rows.{rowAt};
-ghost use Rattle.directory.specs.Listed.{Grouped, InBucket, Listed, places};
+ghost use Rattle.directory.specs.Listed.{Grouped, InBucket, Listed};
 ghost use Rattle.groups.specs.Sums.{member};
 use crate::lots::held;
 use crate::requests::asked;
 use chains::chain::next;
 use chains::group;
+use kinds::units::AccountNo;
 use record::codes::Kind;
 use record::row::Grid;
-use record::row::Row;
 use rules::key::Key;
-use shelf::place::row_at;
 
-fn member(group: Key, r: Row) -> bool
-    ensures { λ b. ⌜ b ≡ member group r ⌝ }
+// The record at a place is of a group.
+fn member(book: &[u8], group: Key, at: usize) -> bool
+    requires { ⌜ at < places (now book) ⌝ }
+    ensures { λ b. ⌜ b ≡ member group (rowAt (now (book .entry)) at) ⌝ }
 {
     if group.kind == Kind::REQUEST {
-        return asked(group.symbol, r);
+        return asked(book, group.symbol, at);
     }
-    held(group.party, group.symbol, r)
+    held(book, AccountNo(group.party), group.symbol, at)
 }
 
 // The first of a group from a place of its bucket on.
@@ -37,7 +38,7 @@ fn walk(book: &[u8], dir: &[u16], group: Key, from: usize) -> usize
     let n = book.len() / Grid::SIZE;
     let mut c = from;
     while c < n {
-        if member(group, row_at(book, c)) {
+        if member(book, group, c) {
             return c;
         }
         c = next(dir, c);

@@ -15,7 +15,7 @@ use mir.Syntax.{w64}
 use mir.Val.{toZ}
 use borrow.Author.Tests.{eq-eqb, eqb-true, le-ltb, leb-true, leb-false, ltb-true, ne-eqb}
 use Rattle.laws.specs.Place.{every-at, some-place}
-use Rattle.laws.specs.Search.{count, every, means-every, place, total}
+use Rattle.laws.specs.Search.{count, every, means-every, place, total, sumZ}
 use Rattle.laws.specs.Tests.{_⇔_, Means, and-both, and-left, and-right, one-truth, or-else, or-left, or-right}
 use Rattle.laws.specs.Tests.{or-swap}
 use Rattle.laws.specs.Walk.{from-holds}
@@ -27,10 +27,10 @@ use Rattle.rules.specs.Meaning.{means-lot}
 use Rattle.rules.specs.Rules.{as-kind, fits}
 use Rattle.model.specs.Names.{aSummary}
 use Rattle.model.specs.Rows.{hasKey, is, nothing, there}
-use Rattle.model.specs.Sound.{each, lotOf, lotRight, otherSign, s1, s8, short, summaryRight}
+use Rattle.model.specs.Sound.{each, lotOf, lotRight, otherSign, s1, s8, short, summaryRight, equalZ, sharesOf}
 use Rattle.facts.specs.Names.{by-holder}
 use Rattle.groups.specs.Sums.{sharesPart}
-use Rattle.clauses.specs.Kept.{equalShares, lotKept, oneSided, summaryKept, tradeAgrees}
+use Rattle.clauses.specs.Kept.{lotKept, oneSided, summaryKept, tradeAgrees}
 
 -- what is counted and what is summed are none together
 none-alike : {A : Type 0} (p : A → Bool) (f : A → ℕ) (l : List A)
@@ -119,6 +119,9 @@ one-sign rs l u = go (short l) refl
         ∙ rw e
 
 -- ---- the rules of a lot and of a summary, the sign told at the summary
+abbrev equalShares : List Row → Row → Bool
+equalShares rs s = equalZ (sumZ (sharesOf (s .party) (s .symbol)) rs) (toZ w64 (s .m1))
+
 abbrev pub holdingKept : List Row → Row → Bool
 holdingKept rs r = each kindLot (lotKept rs) r && each kindSummary (summaryKept rs) r
 

@@ -36,6 +36,8 @@ use Rattle.clauses.specs.Hung.{hangs, hungKinds, noOffset, offset, offset-as, o
 use Rattle.sound.specs.Hung.{home, hung, slot}
 use Rattle.sound.specs.Once.{once, one-bit}
 use Rattle.sound.specs.Well.{few-kinds}
+use Rattle.kinds.specs.Kinds.{tradeOf}
+use Rattle.kinds.specs.declared.rows.Trade.{Trade}
 
 -- ---- what S1 says of a status
 history-status : (r : Row) → fits r ≡ true → r .kind ≡ kindTradeHistory → (1 ≤ r .status) × (r .status ≤ 3)
@@ -313,11 +315,13 @@ module _ (b : List ℕ) (fit : s1 (rows b) ≡ true) (unique : s2 (rows b) ≡ t
         (eq-eqb (r .status) (t .status) (sym (offset-as kindTradeHistory r e) ∙ g)))
 
     -- what a trade asks of the rows that hang on it, by the marks
-    pub hung-is : {t : Row} {i o p q : ℕ} → t ≡ rowAt b c → i ≡ t .status → o ≡ bit (eqb (t .status) pending)
-        → p ≡ bit (eqb (t .status) completed) → q ≡ bit (eqb (t .status) completed && cash (t .flags))
-        → (eqb (getD m (c * 8) 0) o && (not (eqb (t .status) pending) || leb tlb (t .form))
+    pub hung-is : {t : Trade} {i o p q : ℕ} → t ≡ tradeOf (rowAt b c) → i ≡ t .status
+        → o ≡ bit (eqb (t .status) pending) → p ≡ bit (eqb (t .status) completed)
+        → q ≡ bit (eqb (t .status) completed && cash (t .flags))
+        → (eqb (getD m (c * 8) 0) o && (not (eqb (t .status) pending) || leb tlb (t .«trade_type»))
         && eqb (getD m (c * 8 + i) 0) 1 && eqb (getD m (c * 8 + 6) 0) p && eqb (getD m (c * 8 + 7) 0) q)
         ≡ hung (rows b) (rowAt b c)
+    unfolding tradeOf
     hung-is row ei eo ep eq =
         let t = rowAt b c in
         let x : getD m (c * 8) 0 ≡ count (hasKey (aRequest (t .id))) (rows b) =
@@ -328,8 +332,9 @@ module _ (b : List ℕ) (fit : s1 (rows b) ≡ true) (unique : s2 (rows b) ≡ t
         rw (eo, ep, eq, ei, row, x, history-mark, one-bit, z, w)
 
   -- a trade's status has a mark
-  pub status-low : {t : Row} {i : ℕ} → t ≡ rowAt b c → i ≡ t .status → i ≤ 3
+  pub status-low : {t : Trade} {i : ℕ} → t ≡ tradeOf (rowAt b c) → i ≡ t .status → i ≤ 3
+  unfolding tradeOf
   status-low row e =
       let low = trade-status (rowAt b c) (fits-at c in-book) trade .1 in
-      let z : _ ≡ rowAt b c .status = e ∙ ap (λ (r : Row). r .status) row in
+      let z : _ ≡ rowAt b c .status = e ∙ ap (λ (u : Trade). u .status) row in
       omega arith

@@ -24,6 +24,8 @@ use Rattle.facts.specs.Names.{by-id, by-symbol}
 use Rattle.facts.specs.Rows.{length-rows}
 use Rattle.shelf.specs.Rows.{rowAt}
 use Rattle.sound.specs.Kinds.{KindFits}
+use Rattle.kinds.specs.Kinds.{tradeOf}
+use Rattle.kinds.specs.declared.rows.Trade.{Trade}
 
 security-spelt : (r : Row) → fits r ≡ true → r .kind ≡ kindSecurity → symbolOk (r .symbol) ≡ true
 security-spelt r f e = means-symbol (r .symbol) .holds (means-security r .shows (as-kind kindSecurity r e ∙ f) .1)
@@ -48,10 +50,11 @@ module _ (b : List ℕ) {p : ℕ} (low : p < length b / 64) where
       ap symbolOk (sym same) ∙ security-spelt r (s .all p low kind) kind
 
   -- a trade is there
-  pub trade-known : KindFits b kindTrade → (x : ℕ) {t : Row} → p ≡ place (hasKey (aTrade x)) (rows b) → t ≡ rowAt b p
-      → symbolOk (t .symbol) ≡ true
+  pub trade-known : KindFits b kindTrade → (x : ℕ) {t : Trade} → p ≡ place (hasKey (aTrade x)) (rows b)
+      → t ≡ tradeOf (rowAt b p) → symbolOk (t .symbol) ≡ true
+  unfolding tradeOf
   trade-known s x at row =
       let r = rowAt b p in
       let both = sym (by-id kindTrade refl x r) ∙ has-key (aTrade x) at in
       let kind = eqb-true (r .kind) kindTrade (and-left (is kindTrade r) (eqb (r .id) x) both) in
-      ap (λ (u : Row). symbolOk (u .symbol)) row ∙ trade-spelt r (s .all p low kind) kind
+      ap (λ (u : Trade). symbolOk (u .symbol)) row ∙ trade-spelt r (s .all p low kind) kind

@@ -50,17 +50,13 @@ pub record Hanged (b m : List ℕ) (i s : ℕ) : Type 0 where
 hung-free : (a : Row) → hangs a ≡ true → a .kind ≡ kindFree → ⊥
 hung-free a h e = false≢true (ap (λ (k : ℕ). among k hungKinds) (sym e) ∙ h)
 
--- a row that is read, and its trade
-pub row-hangs : {r a : Row} → r ≡ a → hangs a ≡ true → hangs r ≡ true
-row-hangs e h = ap hangs e ∙ h
+-- the trade of a row that is read
+pub its-trade : (b : List ℕ) {r a : Row} {p : ℕ} → r ≡ a → p ≡ place (hasKey (aTrade (r .id))) (rows b)
+    → p ≡ place (hasKey (aTrade (a .id))) (rows b)
+its-trade b e h = h ∙ ap (λ (x : Row). place (hasKey (aTrade (x .id))) (rows b)) e
 
--- and the same row read again
-pub same-trade : (b : List ℕ) {r s a : Row} {p : ℕ} → r ≡ a → s ≡ a → p ≡ place (hasKey (aTrade (r .id))) (rows b)
-    → p ≡ place (hasKey (aTrade (s .id))) (rows b)
-same-trade b e f h = h ∙ ap (λ (x : Row). place (hasKey (aTrade (x .id))) (rows b)) (e ∙ sym f)
-
-module _ {b m : List ℕ} {i : ℕ} {r : Row} (inside : i < length b / 64) (hanging : hangs (rowAt b i) ≡ true)
-    (marked : MarkedTo b (rowAt b i .kind * 4096 + i) m) (row : r ≡ rowAt b i) where
+module _ {b m : List ℕ} {i : ℕ} (inside : i < length b / 64) (hanging : hangs (rowAt b i) ≡ true)
+    (marked : MarkedTo b (rowAt b i .kind * 4096 + i) m) where
   none : sound (rows b) ≡ false → Hanged b m i noSlot
   none e = record { yes = λ h. absurd (omega arith); no = λ h. e }
 
@@ -68,9 +64,9 @@ module _ {b m : List ℕ} {i : ℕ} {r : Row} (inside : i < length b / 64) (hang
   hang-unfit h e =
       none (refuted (sound (rows b)) (λ good. false≢true (sym (rule-lost h e) ∙ sound-fits b good i inside)))
 
-  module _ {p : ℕ} (at-trade : p ≡ place (hasKey (aTrade (r .id))) (rows b)) where
+  module _ {p : ℕ} (at-trade : p ≡ place (hasKey (aTrade (rowAt b i .id))) (rows b)) where
     trade-there : ltb p (length b / 64) ≡ there (aTrade (rowAt b i .id)) (rows b)
-    trade-there = key-there (aTrade (r .id)) b at-trade ∙ ap (λ (x : Row). there (aTrade (x .id)) (rows b)) row
+    trade-there = key-there (aTrade (rowAt b i .id)) b at-trade
 
     pub hang-lost : length b / 64 ≤ p → Hanged b m i noSlot
     unfolding hungWell
@@ -84,11 +80,10 @@ module _ {b m : List ℕ} {i : ℕ} {r : Row} (inside : i < length b / 64) (hang
         in
         false≢true (gone ∙ some)))
 
-    module _ {t : Row} {x : Bool} (trade : t ≡ rowAt b p) (is-x : x ≡ fitsTrade (rows b) t r) where
+    module _ {x : Bool} (is-x : x ≡ fitsTrade (rows b) (rowAt b p) (rowAt b i)) where
       fits-found : x ≡ fitsTrade (rows b) (found (aTrade (rowAt b i .id)) (rows b)) (rowAt b i)
       fits-found =
-          is-x ∙ ap (λ (y : Row). fitsTrade (rows b) y r) (key-row (aTrade (r .id)) b at-trade trade)
-          ∙ ap (λ (y : Row). fitsTrade (rows b) (found (aTrade (y .id)) (rows b)) y) row
+          is-x ∙ ap (λ (y : Row). fitsTrade (rows b) y (rowAt b i)) (key-row (aTrade (rowAt b i .id)) b at-trade refl)
 
       pub hang-unlike : not x ≡ true → Hanged b m i noSlot
       unfolding hungWell
@@ -102,25 +97,23 @@ module _ {b m : List ℕ} {i : ℕ} {r : Row} (inside : i < length b / 64) (hang
           false≢true (sym (rule-lost fits-found e) ∙ fit)))
 
       module _ {y : Bool} {o : ℕ} (is-y : y ≡ fits (rowAt b i)) (fit : not y ≡ false) (like : not x ≡ false)
-          (low : p < length b / 64) (is-o : o ≡ offset r) where
+          (low : p < length b / 64) (is-o : o ≡ offset (rowAt b i)) where
         fit-here : fits (rowAt b i) ≡ true
         fit-here = rule-kept is-y fit
 
         slot-is : p * 8 + o ≡ slotAt b i
         unfolding home
-        slot-is = rw (at-trade, is-o, row)
+        slot-is = rw (at-trade, is-o)
 
         home-in : home (rows b) (rowAt b i) < length (rows b)
         unfolding home
         home-in =
-            let e : place (hasKey (aTrade (rowAt b i .id))) (rows b) ≡ p =
-            sym (at-trade ∙ ap (λ (x : Row). place (hasKey (aTrade (x .id))) (rows b)) row)
-            in
+            let e : place (hasKey (aTrade (rowAt b i .id))) (rows b) ≡ p = sym at-trade in
             let n = length-rows b in
             omega arith
 
         small : o < 8
-        small = rw (is-o, row) (small-offset (rows b) (rowAt b i) fit-here hanging)
+        small = rw is-o (small-offset (rows b) (rowAt b i) fit-here hanging)
 
         pub slot-in : p * 8 + o < length m
         slot-in =
@@ -382,7 +375,6 @@ marks-start b n few room = record {
         List·getD-eq-default zeros 0 l
 
 pub ruleset hangings = (
-  row-hangs,
   key-row,
   hang-unfit,
   hang-lost,

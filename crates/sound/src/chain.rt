@@ -2,7 +2,7 @@
 ghost use mathlib.Core.Path.{_≡_};
 ghost use Prim.Native.Nat.{_+_, _/_, _≤_, _<_};
 ghost use lib.ListN.{getD, length};
-ghost use Rattle.model.specs.Rows.{mostRecords, rows};
+ghost use Rattle.model.specs.Rows.{mostRecords, places, rows};
 ghost use Rattle.model.specs.Sound.{sound};
 ghost use Rattle.sound.specs.Chains.{ByKind, NoChains, kindHeads};
 ghost use Rattle.sound.specs.Says.{Says};
@@ -48,7 +48,7 @@ pub fn next(links: &[u16], at: usize) -> usize
 
 // Chains the places, the last first. A book with a row of no kind is unsound.
 pub fn chain(book: &[u8], links: &mut [u16]) -> bool
-    requires { ⌜ length (now book) / 64 ≤ mostRecords ⌝ }
+    requires { ⌜ places (now book) ≤ mostRecords ⌝ }
     requires { ⌜ NoChains (now book) (now links) ⌝ }
     ensures { λ r. ⌜ Says r (ByKind (now (book .entry)) (now (links .exit)) 0) (sound (rows (now (book .entry)))) ⌝ }
 {

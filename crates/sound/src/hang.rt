@@ -3,11 +3,10 @@
 ghost use mathlib.Core.Path.{_≡_};
 ghost use mathlib.Core.Bool.{false, true};
 ghost use Prim.Native.Nat.{_+_, _*_, _/_, _<_};
-ghost use lib.ListN.{length};
 ghost use Rattle.laws.specs.Search.{bit};
 ghost use Rattle.record.specs.Codes.{kindTrade};
 ghost use Rattle.rules.specs.Key.{among};
-ghost use Rattle.model.specs.Rows.{rows};
+ghost use Rattle.model.specs.Rows.{places, rows};
 ghost use Rattle.model.specs.Sound.{s1, s2, sound};
 ghost use Rattle.shelf.specs.Rows.{rowAt};
 ghost use Rattle.directory.specs.Listed.{Listed};
@@ -25,6 +24,7 @@ use clauses::hung::fits_trade;
 use clauses::hung::offset;
 use directory::typed::trade;
 use fields::fits_beside;
+use kinds::rows::Trade;
 use kinds::units::TradeNo;
 use record::codes::Kind;
 use record::codes::TradeStatus;
@@ -52,9 +52,9 @@ fn one(b: bool) -> u8
 
 // The slot of the row at i where that is well and no row before it has the slot, else no mark's number. Its symbol is
 // mostly that of its trade, which fits, so that it is spelled right.
-fn slot_at(book: &[u8], dir: &[u16], marks: &[u8], i: usize) -> usize
+fn slot_at(book: &[u8], dir: &[u16], marks: &[u8], kind: u8, i: usize) -> usize
     requires { ⌜ Listed (now book) (now dir) ⌝ }
-    requires { ⌜ (i < length (now book) / 64) × (hangs (rowAt (now book) i) ≡ true) ⌝ }
+    requires { ⌜ (i < places (now book)) × (hangs (rowAt (now book) i) ≡ true) × (rowAt (now book) i .kind ≡ kind) ⌝ }
     requires { ⌜ MarkedTo (now book) (rowAt (now book) i .kind * 4096 + i) (now marks) ⌝ }
     requires { ⌜ KindFits (now book) kindTrade ⌝ }
     ensures { λ r. ⌜ Hanged (now (book .entry)) (now (marks .entry)) i r ⌝ }
@@ -63,14 +63,14 @@ fn slot_at(book: &[u8], dir: &[u16], marks: &[u8], i: usize) -> usize
     if book.len() / Grid::SIZE <= p {
         return Marks::NONE;
     }
-    if !fits_beside(part(book, i), row_at(book, p).symbol) {
+    let t = Trade::from_bytes(part(book, p));
+    if !fits_beside(part(book, i), t.symbol) {
         return Marks::NONE;
     }
-    let row = row_at(book, i);
-    if !fits_trade(book, dir, row_at(book, p), row) {
+    if !fits_trade(book, dir, kind, p, i) {
         return Marks::NONE;
     }
-    let s = p * Marks::EACH + offset(row);
+    let s = p * Marks::EACH + offset(book, kind, i);
     if marks[s] != 0 {
         return Marks::NONE;
     }
@@ -91,7 +91,7 @@ pub fn hang(book: &[u8], dir: &[u16], links: &[u16], marks: &mut [u8], kind: u8)
     let n = book.len() / Grid::SIZE;
     let mut c = first(links, kind);
     while c < n {
-        let s = slot_at(book, dir, marks, c);
+        let s = slot_at(book, dir, marks, kind, c);
         if Marks::NONE <= s {
             return false;
         }
@@ -104,11 +104,11 @@ pub fn hang(book: &[u8], dir: &[u16], links: &[u16], marks: &mut [u8], kind: u8)
 // What a trade asks of the rows that hang on it, by its marks.
 fn hung_at(book: &[u8], marks: &[u8], i: usize) -> bool
     requires { ⌜ (s1 (rows (now book)) ≡ true) × (s2 (rows (now book)) ≡ true) ⌝ }
-    requires { ⌜ (i < length (now book) / 64) × (rowAt (now book) i .kind ≡ kindTrade) ⌝ }
+    requires { ⌜ (i < places (now book)) × (rowAt (now book) i .kind ≡ kindTrade) ⌝ }
     requires { ⌜ MarkedTo (now book) allPast (now marks) ⌝ }
     ensures { λ r. ⌜ r ≡ hung (rows (now (book .entry))) (rowAt (now (book .entry)) i) ⌝ }
 {
-    let t = row_at(book, i);
+    let t = Trade::from_bytes(part(book, i));
     let m = i * Marks::EACH;
     let request = marks[m];
     let history = marks[m + index(t.status)];
@@ -117,7 +117,7 @@ fn hung_at(book: &[u8], marks: &[u8], i: usize) -> bool
     let pending = t.status == TradeStatus::PENDING;
     let done = t.status == TradeStatus::COMPLETED;
     (request == one(pending))
-        & (!pending | (TradeType::TLB <= t.form))
+        & (!pending | (TradeType::TLB <= t.trade_type))
         & (history == 1)
         & (settlement == one(done))
         & (cash == one(done & (t.flags % 2 == 1)))

@@ -3,11 +3,10 @@
 ghost use mathlib.Core.Path.{_≡_};
 ghost use mathlib.Core.Bool.{_&&_, false, true};
 ghost use Prim.Native.Nat.{_/_, _<_, _≤_};
-ghost use lib.ListN.{length};
 ghost use Rattle.record.specs.Codes.{kindSecurity, kindSummary, kindTrade};
 ghost use Rattle.rules.specs.Rules.{fits};
 ghost use Rattle.rules.specs.Key.{among};
-ghost use Rattle.model.specs.Rows.{rows};
+ghost use Rattle.model.specs.Rows.{places, rows};
 ghost use Rattle.model.specs.Sound.{s1, sound};
 ghost use Rattle.shelf.specs.Rows.{rowAt};
 ghost use Rattle.directory.specs.Listed.{Listed};
@@ -35,7 +34,7 @@ use shelf::place::row_at;
 
 // S1 of the record at a place, by its own bytes.
 fn fit_at(book: &[u8], i: usize) -> bool
-    requires { ⌜ i < length (now book) / 64 ⌝ }
+    requires { ⌜ i < places (now book) ⌝ }
     ensures { λ r. ⌜ r ≡ fits (rowAt (now (book .entry)) i) ⌝ }
 {
     fits(part(book, i))
@@ -44,7 +43,7 @@ fn fit_at(book: &[u8], i: usize) -> bool
 // The key of the row at i stands nowhere after it: the chain of its group ends there, or has no such row.
 fn last(book: &[u8], dir: &[u16], i: usize) -> bool
     requires { ⌜ Listed (now book) (now dir) ⌝ }
-    requires { ⌜ (i < length (now book) / 64) × (hangs (rowAt (now book) i) ≡ false) ⌝ }
+    requires { ⌜ (i < places (now book)) × (hangs (rowAt (now book) i) ≡ false) ⌝ }
     ensures { λ r. ⌜ r ≡ lastAt (now (book .entry)) i ⌝ }
 {
     let n = book.len() / Grid::SIZE;
@@ -61,7 +60,7 @@ fn last(book: &[u8], dir: &[u16], i: usize) -> bool
 // S1 and the own rule of a trade. Its symbol is that of a security, so that it is spelled right.
 fn trade_right(book: &[u8], dir: &[u16], i: usize) -> bool
     requires { ⌜ Listed (now book) (now dir) ⌝ }
-    requires { ⌜ (i < length (now book) / 64) × (rowAt (now book) i .kind ≡ kindTrade) ⌝ }
+    requires { ⌜ (i < places (now book)) × (rowAt (now book) i .kind ≡ kindTrade) ⌝ }
     requires { ⌜ KindFits (now book) kindSecurity ⌝ }
     ensures { λ r.
         let b = now (book .entry) in
@@ -79,7 +78,7 @@ fn trade_right(book: &[u8], dir: &[u16], i: usize) -> bool
 // S1 and the own rule of a row. That the summaries fit is known before their rule is asked for.
 fn told(book: &[u8], dir: &[u16], kind: u8, i: usize) -> bool
     requires { ⌜ Listed (now book) (now dir) ⌝ }
-    requires { ⌜ (i < length (now book) / 64) × (rowAt (now book) i .kind ≡ kind) ⌝ }
+    requires { ⌜ (i < places (now book)) × (rowAt (now book) i .kind ≡ kind) ⌝ }
     requires { ⌜ (kind ≡ kindSummary → s1 (rows (now book)) ≡ true) ⌝ }
     requires { ⌜ (kind ≡ kindTrade → KindFits (now book) kindSecurity) ⌝ }
     ensures { λ r.
@@ -97,7 +96,7 @@ fn told(book: &[u8], dir: &[u16], kind: u8, i: usize) -> bool
 
 fn own_at(book: &[u8], dir: &[u16], kind: u8, i: usize) -> bool
     requires { ⌜ Listed (now book) (now dir) ⌝ }
-    requires { ⌜ (i < length (now book) / 64) × (rowAt (now book) i .kind ≡ kind) × (among kind hungKinds ≡ false) ⌝ }
+    requires { ⌜ (i < places (now book)) × (rowAt (now book) i .kind ≡ kind) × (among kind hungKinds ≡ false) ⌝ }
     requires { ⌜ (kind ≡ kindSummary → s1 (rows (now book)) ≡ true) ⌝ }
     requires { ⌜ (kind ≡ kindTrade → KindFits (now book) kindSecurity) ⌝ }
     ensures { λ r.

@@ -1,9 +1,8 @@
 // The whole of a book, kind by kind; and its status.
 ghost use mathlib.Core.Path.{_≡_};
 ghost use Prim.Native.Nat.{_*_, _/_, _≤_};
-ghost use lib.ListN.{length};
 ghost use Rattle.record.specs.Codes.{kindSummary};
-ghost use Rattle.model.specs.Rows.{mostRecords, rows, wholeRecords};
+ghost use Rattle.model.specs.Rows.{mostRecords, places, rows, wholeRecords};
 ghost use Rattle.model.specs.Sound.{sound};
 ghost use Rattle.model.specs.Tally.{bookStatus};
 ghost use Rattle.directory.specs.Listed.{Listed};
@@ -90,7 +89,7 @@ fn judged(book: &[u8], dir: &[u16], links: &mut [u16], marks: &mut [u8]) -> bool
 }
 
 fn small(book: &[u8], dir: &[u16]) -> bool
-    requires { ⌜ Listed (now book) (now dir) × (length (now book) / 64 ≤ 127) ⌝ }
+    requires { ⌜ Listed (now book) (now dir) × (places (now book) ≤ 127) ⌝ }
     ensures { λ r. ⌜ r ≡ sound (rows (now (book .entry))) ⌝ }
 {
     let none = narrow(book.len() / Grid::SIZE);
@@ -100,7 +99,7 @@ fn small(book: &[u8], dir: &[u16]) -> bool
 }
 
 fn middle(book: &[u8], dir: &[u16]) -> bool
-    requires { ⌜ Listed (now book) (now dir) × (length (now book) / 64 ≤ 1023) ⌝ }
+    requires { ⌜ Listed (now book) (now dir) × (places (now book) ≤ 1023) ⌝ }
     ensures { λ r. ⌜ r ≡ sound (rows (now (book .entry))) ⌝ }
 {
     let none = narrow(book.len() / Grid::SIZE);
@@ -136,7 +135,7 @@ pub fn sound_by(book: &[u8], dir: &[u16]) -> bool
 
 // The same for a book whose directory is not made yet.
 fn small_book(book: &[u8]) -> bool
-    requires { ⌜ length (now book) / 64 ≤ 127 ⌝ }
+    requires { ⌜ places (now book) ≤ 127 ⌝ }
     ensures { λ r. ⌜ r ≡ sound (rows (now (book .entry))) ⌝ }
 {
     let mut dir = [narrow(book.len() / Grid::SIZE); Small::CELLS];
@@ -145,7 +144,7 @@ fn small_book(book: &[u8]) -> bool
 }
 
 fn middle_book(book: &[u8]) -> bool
-    requires { ⌜ length (now book) / 64 ≤ 1023 ⌝ }
+    requires { ⌜ places (now book) ≤ 1023 ⌝ }
     ensures { λ r. ⌜ r ≡ sound (rows (now (book .entry))) ⌝ }
 {
     let mut dir = [narrow(book.len() / Grid::SIZE); Middle::CELLS];
@@ -154,7 +153,7 @@ fn middle_book(book: &[u8]) -> bool
 }
 
 fn large_book(book: &[u8]) -> bool
-    requires { ⌜ length (now book) / 64 ≤ mostRecords ⌝ }
+    requires { ⌜ places (now book) ≤ mostRecords ⌝ }
     ensures { λ r. ⌜ r ≡ sound (rows (now (book .entry))) ⌝ }
 {
     let mut dir = [narrow(book.len() / Grid::SIZE); Large::CELLS];
@@ -163,7 +162,7 @@ fn large_book(book: &[u8]) -> bool
 }
 
 fn sound(book: &[u8]) -> bool
-    requires { ⌜ length (now book) / 64 ≤ mostRecords ⌝ }
+    requires { ⌜ places (now book) ≤ mostRecords ⌝ }
     ensures { λ r. ⌜ r ≡ sound (rows (now (book .entry))) ⌝ }
 {
     let n = book.len() / Grid::SIZE;

@@ -1,5 +1,7 @@
 -- By the trade that is found. Assumes nothing.
-use mathlib.Core.Path.{ap}
+use mathlib.Core.Path.{ap, _∙_}
+use Rattle.kinds.specs.Kinds.{tradeOf}
+use Rattle.kinds.specs.declared.rows.Trade.{Trade}
 use Rattle.record.specs.declared.row.Row.{Row}
 use Rattle.directory.specs.Found.{key-row}
 use borrow.Author.Needs.{needs}
@@ -7,8 +9,13 @@ use Rattle.clauses.proofs.trade.status_of.Statement.{statement}
 use Rattle.clauses.proofs.trade.status_of.Tie as tie
 
 returns : tie.Need-returns
+unfolding tradeOf
 returns c =
-    ap (λ (r : Row). r .status) (key-row _ _ (c .before .trade .ensures) (c .row-at .ensures))
+    let read = c .before .before in
+    ap (λ (t : Trade). t .status) (c .from-bytes .ensures)
+    ∙ ap (λ (r : Row). r .status) (key-row _ _ (read .before .trade .ensures) (read .record-at .ensures .1))
 
 pub status-of-spec : {M : Type 1} → statement M
-status-of-spec = tie.close (tie.spec (λ c κs. search needs) (λ c κs. search needs) returns)
+status-of-spec =
+    tie.close
+    (tie.spec (λ c κs. search needs) (λ c κs. search needs) (λ c. search needs) (λ c κs. search needs) returns)

@@ -23,7 +23,6 @@ band-spec =
     tie.close
     (tie.spec Inv-loop μ-loop (λ c κs. search (needs, walks, band-grouped))
     (λ c κs. search (needs, walks, band-grouped)) (λ c. search (needs, walks, band-grouped))
-    (λ c κs. search (needs, walks, band-grouped)) (λ c κs. search (needs, walks, band-grouped))
-    (λ c. search (needs, walks, band-grouped)) (λ c κs. search (needs, walks, band-grouped))
-    (λ c. search (needs, walks, band-grouped)) (λ c. search (needs, walks, band-grouped))
-    (λ c. search (needs, walks, band-grouped)))
+    (λ c κs. search (needs, walks, band-grouped)) (λ c. search (needs, walks, band-grouped))
+    (λ c κs. search (needs, walks, band-grouped)) (λ c. search (needs, walks, band-grouped))
+    (λ c. search (needs, walks, band-grouped)) (λ c. search (needs, walks, band-grouped)))

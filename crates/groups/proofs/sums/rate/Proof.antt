@@ -1,20 +1,34 @@
--- The rate that the row names, of the customer alone. Assumes nothing.
+-- The rate that the record names, of the customer alone. Assumes nothing.
+use mathlib.Core.Path.{ap, _∙_}
 use native.Mathlib.Omega.{arith}
+use Rattle.kinds.specs.Kinds.{customerRateOf, taxRateOf}
 use Rattle.directory.specs.Found.{key-row}
-use Rattle.groups.specs.Sums.{rate-no, rate-yes}
+use Rattle.groups.specs.Sums.{kind-byte, rate-no, rate-yes}
 use borrow.Author.Needs.{needs}
 use Rattle.groups.proofs.sums.rate.Statement.{statement}
 use Rattle.groups.proofs.sums.rate.Tie as tie
 
 returns : tie.Need-returns
 returns c =
-    let row = c .before .before .before .before .before .before .before .before .args .row in
     let wide = c .wide32 .ensures in
-    let found = key-row _ _ (c .before .before .tax-rate .ensures) (c .before .row-at .ensures) in
-    (rate-yes _ _ row (c .before .before .before .if1 .taken) found (wide .0), omega arith)
+    let read = c .before .before .before in
+    let at-if1 = read .before .before in
+    let at-from-bytes = at-if1 .before .before .before .before in
+    let row = at-from-bytes .before .part .ensures .1 in
+    let named = at-from-bytes .from-bytes .ensures ∙ ap customerRateOf row in
+    let found = key-row _ _ (read .before .tax-rate .ensures) (read .record-at .ensures .1) in
+    let rate = c .before .from-bytes2 .ensures ∙ ap taxRateOf found in
+    (rate-yes _ _ _ (kind-byte _ row) named (at-if1 .if1 .taken) rate (wide .0), omega arith)
 
 returns-2 : tie.Need-returns-2
-returns-2 c = (rate-no _ _ (c .before .before .before .before .before .args .row) (c .if1 .left), omega arith)
+returns-2 c =
+    let at-from-bytes = c .before .before .before .before in
+    let row = at-from-bytes .before .part .ensures .1 in
+    let named = at-from-bytes .from-bytes .ensures ∙ ap customerRateOf row in
+    (rate-no _ _ _ (kind-byte _ row) named (c .if1 .left), omega arith)
 
 pub rate-spec : {M : Type 1} → statement M
-rate-spec = tie.close (tie.spec (λ c κs. search needs) (λ c κs. search needs) (λ c κs. search needs) returns returns-2)
+rate-spec =
+    tie.close
+    (tie.spec (λ c κs. search needs) (λ c κs. search needs) (λ c. search needs) (λ c κs. search needs)
+    (λ c κs. search needs) (λ c. search needs) (λ c κs. search needs) (λ c κs. search needs) returns returns-2)

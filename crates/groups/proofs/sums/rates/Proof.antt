@@ -23,7 +23,6 @@ rates-spec =
     tie.close
     (tie.spec Inv-loop μ-loop (λ c κs. search (needs, walks, rates-counted))
     (λ c κs. search (needs, walks, rates-counted)) (λ c. search (needs, walks, rates-counted))
-    (λ c κs. search (needs, walks, rates-counted)) (λ c κs. search (needs, walks, rates-counted))
-    (λ c. search (needs, walks, rates-counted)) (λ c κs. search (needs, walks, rates-counted))
-    (λ c. search (needs, walks, rates-counted)) (λ c. search (needs, walks, rates-counted))
-    (λ c. search (needs, walks, rates-counted)))
+    (λ c κs. search (needs, walks, rates-counted)) (λ c. search (needs, walks, rates-counted))
+    (λ c κs. search (needs, walks, rates-counted)) (λ c. search (needs, walks, rates-counted))
+    (λ c. search (needs, walks, rates-counted)) (λ c. search (needs, walks, rates-counted)))

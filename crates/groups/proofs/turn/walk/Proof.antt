@@ -20,5 +20,5 @@ pub walk-spec : {M : Type 1} → statement M
 walk-spec =
     tie.close
     (tie.spec Inv-loop μ-loop (λ c. search (needs, walks)) (λ c κs. search (needs, walks))
-    (λ c κs. search (needs, walks)) (λ c. search (needs, walks)) (λ c κs. search (needs, walks))
-    (λ c. search (needs, walks)) (λ c. search (needs, walks)) (λ c. search (needs, walks)))
+    (λ c. search (needs, walks)) (λ c κs. search (needs, walks)) (λ c. search (needs, walks))
+    (λ c. search (needs, walks)) (λ c. search (needs, walks)))

@@ -5,7 +5,7 @@ use Prim.Native.Nat.{_-_}
 use lib.ListN.{length}
 use Rattle.sound.specs.Chains.{chains}
 use Rattle.sound.specs.Says.{says-no, says-yes}
-use Rattle.sound.specs.Turn.{Hanging, hang-all, hangings}
+use Rattle.sound.specs.Turn.{Hanging, hang-all, hang-kind, hang-marked, hangings}
 use borrow.Author.Needs.{needs}
 use Rattle.sound.proofs.hang.hang.Statement.{statement}
 use Rattle.sound.proofs.hang.hang.Tie as tie
@@ -15,6 +15,19 @@ Inv-loop book dir links marks₀ kind n c₀ marks c = Hanging book kind c marks
 
 abbrev μ-loop : tie.MeasureT-loop
 μ-loop book dir links marks₀ kind n c₀ marks c = n - c
+
+slot-at-requires : tie.Need-slot-at-requires Inv-loop μ-loop
+slot-at-requires c κs =
+    let at-loop = c .before .before in
+    let start = at-loop .before .before .before .before .before .before .pre in
+    let hanging = at-loop .loop .inv .0 in
+    let inside = c .before .loop-test .taken in (
+      start .0,
+      (
+        (inside, hang-kind hanging inside, hanging .going .here inside),
+        (hang-marked hanging inside, start .1 .1 .1 .1),
+      ),
+    )
 
 returns : tie.Need-returns Inv-loop μ-loop
 returns c = says-no _ (c .before .slot-at .ensures .no (c .if1 .taken))
@@ -31,6 +44,6 @@ pub hang-spec : {M : Type 1} → statement M
 hang-spec =
     tie.close
     (tie.spec Inv-loop μ-loop (λ c κs. search (needs, chains, hangings)) (λ c. search (needs, chains, hangings))
-    (λ c κs. search (needs, chains, hangings)) (λ c. search (needs, chains, hangings)) returns slice-write-marks
+    slot-at-requires (λ c. search (needs, chains, hangings)) returns slice-write-marks
     (λ c κs. search (needs, chains, hangings)) (λ c. search (needs, chains, hangings))
     (λ c. search (needs, chains, hangings)) (λ c. search (needs, chains, hangings)) returns-2)

@@ -17,7 +17,7 @@ returns c = c .trade-right .ensures
 kept-requires : tie.Need-kept-requires
 kept-requires c κs =
     let start = c .before .before .before .before .pre in
-    (start .0, start .1 .1 .0 (c .if2 .taken))
+    (start .0, start .1 .0 .0, start .1 .1 .0 (c .if2 .taken))
 
 returns-2 : tie.Need-returns-2
 returns-2 c =
