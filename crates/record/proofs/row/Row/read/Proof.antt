@@ -15,13 +15,10 @@ u32-at-requires-7 c κs =
     let start = c .before .before .before .before .before .before .before in
     omega (arith, start .before .before .before .before .before .before .before .before .pre)
 
-returns : tie.Need-returns
-unfolding decode
-returns c = cc
-
 pub read-spec : {M : Type 1} → statement M
+unfolding decode
 read-spec =
     tie.close
     (tie.spec (λ c. search needs) (λ c. search needs) (λ c. search needs) (λ c. search needs) (λ c κs. search needs)
     (λ c κs. search needs) (λ c κs. search needs) (λ c κs. search needs) (λ c κs. search needs) (λ c κs. search needs)
-    (λ c κs. search needs) (λ c κs. search needs) (λ c κs. search needs) u32-at-requires-6 u32-at-requires-7 returns)
+    (λ c κs. search needs) (λ c κs. search needs) (λ c κs. search needs) u32-at-requires-6 u32-at-requires-7 (λ c. cc))
