@@ -7,12 +7,13 @@ use Prim.Native.Nat.{ℕ, _≤_, _/_}
 use native.Mathlib.Omega.{arith}
 use lib.Dec.{eqb, leb, ltb}
 use lib.ListN.{length, getD, set, List·getD-eq-default, length-map}
-use borrow.Author.Tests.{eq-eqb, eqb-true, ltb-true, ltb-false}
+use borrow.Author.Tests.{eqb-true, ltb-true, ltb-false}
 use Rattle.laws.specs.Change.{count-alike, keep-other, put, put-the, the-other, the-same}
 use Rattle.laws.specs.Chunk.{chunk, length-chunk}
 use Rattle.laws.specs.Digits.{Digit, digits-equal, head-equal}
 use Rattle.laws.specs.Place.{every-at}
 use Rattle.laws.specs.Search.{keep, place}
+use Rattle.laws.specs.Tests.{eqb-itself}
 use Rattle.record.specs.Codes.{kindFree}
 use Rattle.record.specs.Grid.{decode, row-eq}
 use Rattle.record.specs.Symbol.{numbered, sameSymbol, symbol-eq, symbol-itself, symbolNumber}
@@ -51,42 +52,12 @@ same-rows a b e =
     let s = eqb (a .kind) (b .kind) in
     let at = digits-equal s (fields a b) e in
     row-eq
-    (eqb-true (a .kind) (b .kind) (head-equal s (fields a b) e))
-    (at 0)
-    (at 1)
-    (at 2)
-    (at 3)
-    (at 4)
-    (symbol-eq {a = a .symbol} {b = b .symbol} (at 5))
-    (at 6)
-    (at 7)
-    (at 8)
-    (at 9)
-    (at 10)
-    (at 11)
-    (at 12)
-    (at 13)
+    (eqb-true (a .kind) (b .kind) (head-equal s (fields a b) e)) (at 0) (at 1) (at 2) (at 3) (at 4)
+    (symbol-eq {a = a .symbol} {b = b .symbol} (at 5)) (at 6) (at 7) (at 8) (at 9) (at 10) (at 11) (at 12) (at 13)
 
 pub row-itself : (a : Row) → sameRow a a ≡ true
 unfolding sameRow
-row-itself a =
-    rw (
-      eq-eqb (a .kind) (a .kind) refl,
-      eq-eqb (a .form) (a .form) refl,
-      eq-eqb (a .status) (a .status) refl,
-      eq-eqb (a .flags) (a .flags) refl,
-      eq-eqb (a .party) (a .party) refl,
-      eq-eqb (a .id) (a .id) refl,
-      symbol-itself (a .symbol),
-      eq-eqb (a .n1) (a .n1) refl,
-      eq-eqb (a .n2) (a .n2) refl,
-      eq-eqb (a .n3) (a .n3) refl,
-      eq-eqb (a .n4) (a .n4) refl,
-      eq-eqb (a .m1) (a .m1) refl,
-      eq-eqb (a .m2) (a .m2) refl,
-      eq-eqb (a .time) (a .time) refl,
-      eq-eqb (a .n5) (a .n5) refl,
-    )
+row-itself a = simp (eqb-itself, symbol-itself)
 
 -- ---- a row that is found is changed in the place of its key
 pub put-found : (k : Key) (n : Row) (rs : List Row) → there k rs ≡ true

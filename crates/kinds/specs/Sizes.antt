@@ -1,15 +1,16 @@
 -- How far a signed number lies from zero: a sum lies no further than its terms together, a negation as far. What stays
 -- below the half of 64 bits is what the machine works out. Assumes nothing.
-use mathlib.Core.Path.{_≡_, refl}
+use mathlib.Core.Path.{_≡_, refl, ap, _∙_}
 use mathlib.Core.Bool.{true, false}
 use Prim.Native.Nat.{ℕ, zero, suc, _+_, _^_, _≤_, _<_}
 use native.Mathlib.Omega.{arith}
 use lib.IntN.{ℤ, pos, negsuc, negℤ, natAbs, _+ℤ_, _-ℤ_, +ℤ-idl}
 use lib.Signed.{ltZ, mag}
+use borrow.Author.Needs.{needs}
 use borrow.Author.Tests.{ltb-true}
 use mir.Syntax.{w64}
-use mir.Val.{SFits}
-use Rattle.record.specs.Signed.{dn, dn-sub, up, up-sub}
+use mir.Val.{SFits, ofZ, toZ}
+use Rattle.record.specs.Signed.{dn, dn-sub, got64, up, up-sub}
 use Rattle.kinds.specs.Units.{signedMost}
 
 pub abs-parts : (z : ℤ) → natAbs z ≡ up z + dn z
@@ -68,3 +69,42 @@ up-above (negsuc n) e = let z : _≡_ {A = ℕ} 0 1 = cc in absurd {A = natAbs (
 pub abs-below : (z : ℤ) → ltZ z (pos 0) ≡ true → natAbs z ≡ mag z + 1
 abs-below (pos n) e = let h : ⊥ = omega (arith, ltb-true n 0 e) in absurd h
 abs-below (negsuc n) e = omega arith
+
+-- ---- what a function of plain numbers gives, of numbers that stand in a tuple struct and in a local: as bits
+module _ (z s : ℤ) (h : mag z < 2 ^ 63) (k : mag s < 2 ^ 63) where
+  pub same-held : s ≡ z → toZ w64 (ofZ w64 s) ≡ z
+  same-held e = got64 s k ∙ e
+
+  pub up-held : {x : ℕ} → s ≡ pos x → up (toZ w64 (ofZ w64 s)) ≡ x
+  up-held e = ap up (got64 s k ∙ e)
+
+  pub size-held : {x : ℕ} → s ≡ pos x → natAbs (toZ w64 (ofZ w64 s)) ≡ x
+  size-held e = ap natAbs (got64 s k ∙ e)
+
+  pub negation-held : s ≡ negℤ (toZ w64 (ofZ w64 z)) → toZ w64 (ofZ w64 s) ≡ negℤ z
+  negation-held e = got64 s k ∙ e ∙ ap negℤ (got64 z h)
+
+  pub negation-size : natAbs s ≡ natAbs (toZ w64 (ofZ w64 z)) → natAbs (toZ w64 (ofZ w64 s)) ≡ natAbs z
+  negation-size e = ap natAbs (got64 s k) ∙ e ∙ ap natAbs (got64 z h)
+
+module _ (a b s : ℤ) (h : mag a < 2 ^ 63) (g : mag b < 2 ^ 63) (k : mag s < 2 ^ 63) where
+  pub sum-held : s ≡ toZ w64 (ofZ w64 a) +ℤ toZ w64 (ofZ w64 b) → toZ w64 (ofZ w64 s) ≡ a +ℤ b
+  sum-held e = rw (got64 a h, got64 b g) at (got64 s k ∙ e)
+
+  pub sum-size : natAbs s ≤ natAbs (toZ w64 (ofZ w64 a)) + natAbs (toZ w64 (ofZ w64 b))
+      → natAbs (toZ w64 (ofZ w64 s)) ≤ natAbs a + natAbs b
+  sum-size e = rw (got64 s k, ← got64 a h, ← got64 b g) e
+
+module _ (z : ℤ) {x : ℕ} (h : mag z < 2 ^ 63) where
+  pub bits-held : x ≡ ofZ w64 (toZ w64 (ofZ w64 z)) → x ≡ ofZ w64 z
+  bits-held e = e ∙ ap (ofZ w64) (got64 z h)
+
+  pub plain-held : x ≡ up (toZ w64 (ofZ w64 z)) → x ≡ up z
+  plain-held e = e ∙ ap up (got64 z h)
+
+  pub plain-most : x ≡ up (toZ w64 (ofZ w64 z)) → x ≤ signedMost
+  plain-most e = rw (plain-held e) (up-most z h)
+
+pub ruleset held =
+    (needs, same-held, up-held, size-held, negation-held, negation-size, sum-held, sum-size, bits-held, plain-held,
+    plain-most)

@@ -170,6 +170,9 @@ means-cond {a} {x} {y} p f g = record {
       cond-both a x y (λ t. f .holds (h .0 (p .shows t))) (λ n. g .holds (h .1 (λ q. n (p .holds q))));
 }
 
+pub eqb-itself : (n : ℕ) → eqb n n ≡ true
+eqb-itself n = eq-eqb n n refl
+
 -- a number is one at least, or it is 0
 pub some : (n : ℕ) (t : Bool) → eqb n 0 ≡ t → leb 1 n ≡ not t
 some n true e = let z = eqb-true n 0 e in lt-leb 1 n (omega arith)

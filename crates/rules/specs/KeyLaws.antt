@@ -8,6 +8,7 @@ use native.Mathlib.Nat.{lt-trans, le-refl, le-antisymm}
 use lib.Dec.{eqb, ltb}
 use borrow.Author.Tests.{eqb-true, eq-eqb, ltb-true, ltb-false, lt-ltb, le-ltb}
 use Rattle.laws.specs.Digits.{Digit, less, InBase, same-number, less-number, head-equal, digits-equal}
+use Rattle.laws.specs.Tests.{eqb-itself}
 use Rattle.rules.specs.Key.{among, byForm, byStatus, byFlags, byParty, byId, bySymbol, byN1, byM2, keyOf}
 use Rattle.rules.specs.Key.{sameKey, keyNumber}
 use Rattle.record.specs.Symbol.{noSymbol, sameSymbol, symbol-eq, symbol-itself, symbolBase, symbolNumber}
@@ -108,30 +109,12 @@ same-keys a b e =
     let s = eqb (a .kind) (b .kind) in
     let at = digits-equal s (digits a b) e in
     key-eq
-    (eqb-true (a .kind) (b .kind) (head-equal s (digits a b) e))
-    (at 0)
-    (at 1)
-    (at 2)
-    (at 3)
-    (at 4)
-    (symbol-eq {a = a .symbol} {b = b .symbol} (at 5))
-    (at 6)
-    (at 7)
+    (eqb-true (a .kind) (b .kind) (head-equal s (digits a b) e)) (at 0) (at 1) (at 2) (at 3) (at 4)
+    (symbol-eq {a = a .symbol} {b = b .symbol} (at 5)) (at 6) (at 7)
 
 pub key-itself : (a : Key) → sameKey a a ≡ true
 unfolding sameKey
-key-itself a =
-    rw (
-      eq-eqb (a .kind) (a .kind) refl,
-      eq-eqb (a .form) (a .form) refl,
-      eq-eqb (a .status) (a .status) refl,
-      eq-eqb (a .flags) (a .flags) refl,
-      eq-eqb (a .party) (a .party) refl,
-      eq-eqb (a .id) (a .id) refl,
-      symbol-itself (a .symbol),
-      eq-eqb (a .n1) (a .n1) refl,
-      eq-eqb (a .m2) (a .m2) refl,
-    )
+key-itself a = simp (eqb-itself, symbol-itself)
 
 -- and so does the number
 pub one-number : (a b : Key) → SizedKey a → SizedKey b → keyNumber a ≡ keyNumber b → a ≡ b

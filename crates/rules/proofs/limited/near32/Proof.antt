@@ -7,10 +7,8 @@ use native.Mathlib.Omega.{arith}
 use Rattle.rules.proofs.limited.near32.Statement.{statement}
 use Rattle.rules.proofs.limited.near32.Tie as tie
 
-returns : tie.Need-returns
-returns c =
-    let a = c .args in
-    near-is w32 (a .x) (a .most) refl (omega arith) (omega arith)
-
 pub near32-spec : {M : Type 1} → statement M
-near32-spec = tie.close (tie.spec (λ c. search needs) returns)
+near32-spec =
+    tie.close
+    (tie.spec (λ c. search needs)
+    (λ c. near-is w32 (c .args .x) (c .args .most) refl (omega arith) (omega arith)))

@@ -7,10 +7,8 @@ use native.Mathlib.Omega.{arith}
 use Rattle.rules.proofs.limited.near64.Statement.{statement}
 use Rattle.rules.proofs.limited.near64.Tie as tie
 
-returns : tie.Need-returns
-returns c =
-    let a = c .args in
-    near-is w64 (a .x) (a .most) refl (omega arith) (omega arith)
-
 pub near64-spec : {M : Type 1} → statement M
-near64-spec = tie.close (tie.spec (λ c. search needs) returns)
+near64-spec =
+    tie.close
+    (tie.spec (λ c. search needs)
+    (λ c. near-is w64 (c .args .x) (c .args .most) refl (omega arith) (omega arith)))

@@ -4,19 +4,9 @@ use borrow.Author.Needs.{needs}
 use Rattle.rules.proofs.obey.obeys.Statement.{statement}
 use Rattle.rules.proofs.obey.obeys.Tie as tie
 
-returns : tie.Need-returns
-unfolding obeys
-returns c =
-    rw (
-      c .spelled .ensures,
-      c .before .bound32 .ensures,
-      c .before .before .bound64 .ensures,
-      c .before .before .before .compared .ensures,
-      c .before .before .before .before .in-limits .ensures,
-    )
-
 pub obeys-spec : {M : Type 1} → statement M
+unfolding obeys
 obeys-spec =
     tie.close
     (tie.spec (λ c κs. search needs) (λ c κs. search needs) (λ c κs. search needs) (λ c κs. search needs)
-    (λ c κs. search needs) returns)
+    (λ c κs. search needs) (λ c. cc))

@@ -4,9 +4,6 @@ use borrow.Author.Needs.{needs}
 use Rattle.kinds.proofs.rows.Lot.row.Statement.{statement}
 use Rattle.kinds.proofs.rows.Lot.row.Tie as tie
 
-returns : tie.Need-returns
-unfolding lotRow
-returns c = cc
-
 pub row-spec : {M : Type 1} → statement M
-row-spec = tie.close (tie.spec (λ c κs. search needs) returns)
+unfolding lotRow
+row-spec = tie.close (tie.spec (λ c κs. search needs) (λ c. cc))

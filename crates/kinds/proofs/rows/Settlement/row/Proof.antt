@@ -4,9 +4,6 @@ use borrow.Author.Needs.{needs}
 use Rattle.kinds.proofs.rows.Settlement.row.Statement.{statement}
 use Rattle.kinds.proofs.rows.Settlement.row.Tie as tie
 
-returns : tie.Need-returns
-unfolding settlementRow
-returns c = cc
-
 pub row-spec : {M : Type 1} → statement M
-row-spec = tie.close (tie.spec (λ c κs. search needs) returns)
+unfolding settlementRow
+row-spec = tie.close (tie.spec (λ c κs. search needs) (λ c. cc))

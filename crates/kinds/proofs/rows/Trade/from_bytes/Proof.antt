@@ -5,13 +5,10 @@ use borrow.Author.Needs.{needs}
 use Rattle.kinds.proofs.rows.Trade.from_bytes.Statement.{statement}
 use Rattle.kinds.proofs.rows.Trade.from_bytes.Tie as tie
 
-returns : tie.Need-returns
-unfolding tradeOf decode
-returns c = cc
-
 pub from-bytes-spec : {M : Type 1} → statement M
+unfolding tradeOf decode
 from-bytes-spec =
     tie.close
     (tie.spec (λ c κs. search needs) (λ c. search needs) (λ c. search needs) (λ c. search needs)
     (λ c κs. search needs) (λ c κs. search needs) (λ c κs. search needs) (λ c κs. search needs) (λ c κs. search needs)
-    (λ c κs. search needs) (λ c κs. search needs) (λ c κs. search needs) (λ c κs. search needs) returns)
+    (λ c κs. search needs) (λ c κs. search needs) (λ c κs. search needs) (λ c κs. search needs) (λ c. cc))

@@ -4,11 +4,8 @@ use borrow.Author.Needs.{needs}
 use Rattle.kinds.proofs.rows.Trade.row.Statement.{statement}
 use Rattle.kinds.proofs.rows.Trade.row.Tie as tie
 
-returns : tie.Need-returns
-unfolding tradeRow
-returns c = cc
-
 pub row-spec : {M : Type 1} → statement M
+unfolding tradeRow
 row-spec =
     tie.close
-    (tie.spec (λ c κs. search needs) (λ c κs. search needs) (λ c κs. search needs) (λ c κs. search needs) returns)
+    (tie.spec (λ c κs. search needs) (λ c κs. search needs) (λ c κs. search needs) (λ c κs. search needs) (λ c. cc))

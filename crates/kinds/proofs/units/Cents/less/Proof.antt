@@ -4,11 +4,8 @@ use native.Mathlib.Omega.{arith}
 use Rattle.kinds.proofs.units.Cents.less.Statement.{statement}
 use Rattle.kinds.proofs.units.Cents.less.Tie as tie
 
-returns : tie.Need-returns
-returns c =
-    let near = c .before .negated .ensures .1 in
-    let sum = c .plus .ensures .1 in
-    (rw (c .plus .ensures .0, c .before .negated .ensures .0), omega arith)
-
 pub less-spec : {M : Type 1} → statement M
-less-spec = tie.close (tie.spec (λ c κs. search needs) (λ c κs. search needs) returns)
+less-spec =
+    tie.close
+    (tie.spec (λ c κs. search needs) (λ c κs. search needs)
+    (λ c. (rw (c .plus .ensures .0, c .before .negated .ensures .0), omega arith)))
