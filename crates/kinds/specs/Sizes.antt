@@ -105,6 +105,16 @@ module _ (z : ℤ) {x : ℕ} (h : mag z < 2 ^ 63) where
   pub plain-most : x ≡ up (toZ w64 (ofZ w64 z)) → x ≤ signedMost
   plain-most e = rw (plain-held e) (up-most z h)
 
-pub ruleset held =
-    (needs, same-held, up-held, size-held, negation-held, negation-size, sum-held, sum-size, bits-held, plain-held,
-    plain-most)
+pub ruleset held = (
+  needs,
+  same-held,
+  up-held,
+  size-held,
+  negation-held,
+  negation-size,
+  sum-held,
+  sum-size,
+  bits-held,
+  plain-held,
+  plain-most,
+)

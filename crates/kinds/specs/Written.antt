@@ -1,11 +1,13 @@
 -- The row of a typed value: each field as the grid has it, signed numbers in two's complement, unused fields zero.
 -- Assumes nothing.
+use Prim.Native.Nat.{ℕ}
 use mir.Syntax.{w64}
 use mir.Val.{ofZ}
 use Rattle.record.specs.Codes.{kindBroker, kindAccount, kindSecurity, kindTrade, kindRequest, kindTradeHistory}
 use Rattle.record.specs.Codes.{kindLot, kindSummary, kindLotHistory, kindSettlement, kindCash}
 use Rattle.record.specs.Symbol.{noSymbol}
 use Rattle.record.specs.declared.row.Row.{Row}
+use Rattle.record.specs.declared.symbol.Symbol.{Symbol}
 use Rattle.kinds.specs.Units.{low}
 use Rattle.kinds.specs.declared.rows.Broker.{Broker}
 use Rattle.kinds.specs.declared.rows.Account.{Account}
@@ -19,211 +21,68 @@ use Rattle.kinds.specs.declared.rows.LotHistory.{LotHistory}
 use Rattle.kinds.specs.declared.rows.Settlement.{Settlement}
 use Rattle.kinds.specs.declared.rows.Cash.{Cash}
 
-unfoldable pub brokerRow : Broker → Row
-brokerRow x = record {
-  kind = kindBroker;
-  form = 0;
-  status = 0;
-  flags = 0;
-  party = x .no .0;
-  id = 0;
-  symbol = noSymbol;
-  n1 = x .trades;
-  n2 = 0;
-  n3 = 0;
-  n4 = 0;
-  m1 = ofZ w64 (x .commission .0);
-  m2 = 0;
-  time = 0;
+-- the row of its fields, in the order of the grid; the last one is unused in every kind
+abbrev pub gridRow : ℕ → ℕ → ℕ → ℕ → ℕ → ℕ → Symbol → ℕ → ℕ → ℕ → ℕ → ℕ → ℕ → ℕ → Row
+gridRow kind form status flags party id symbol n1 n2 n3 n4 m1 m2 time = record {
+  kind = kind;
+  form = form;
+  status = status;
+  flags = flags;
+  party = party;
+  id = id;
+  symbol = symbol;
+  n1 = n1;
+  n2 = n2;
+  n3 = n3;
+  n4 = n4;
+  m1 = m1;
+  m2 = m2;
+  time = time;
   n5 = 0;
 }
+
+unfoldable pub brokerRow : Broker → Row
+brokerRow x = gridRow kindBroker 0 0 0 (x .no .0) 0 noSymbol (x .trades) 0 0 0 (ofZ w64 (x .commission .0)) 0 0
 
 unfoldable pub accountRow : Account → Row
-accountRow x = record {
-  kind = kindAccount;
-  form = x .«tax_status»;
-  status = 0;
-  flags = 0;
-  party = x .no .0;
-  id = 0;
-  symbol = noSymbol;
-  n1 = x .broker .0;
-  n2 = x .customer .0;
-  n3 = 0;
-  n4 = 0;
-  m1 = ofZ w64 (x .balance .0);
-  m2 = 0;
-  time = 0;
-  n5 = 0;
-}
+accountRow x =
+    gridRow kindAccount (x .«tax_status») 0 0 (x .no .0) 0 noSymbol (x .broker .0) (x .customer .0) 0 0
+    (ofZ w64 (x .balance .0)) 0 0
 
 unfoldable pub securityRow : Security → Row
-securityRow x = record {
-  kind = kindSecurity;
-  form = x .exchange;
-  status = 0;
-  flags = 0;
-  party = 0;
-  id = 0;
-  symbol = x .symbol;
-  n1 = x .«last_price» .0;
-  n2 = 0;
-  n3 = 0;
-  n4 = 0;
-  m1 = ofZ w64 (x .volume .0);
-  m2 = 0;
-  time = x .time .0;
-  n5 = 0;
-}
+securityRow x =
+    gridRow kindSecurity (x .exchange) 0 0 0 0 (x .symbol) (x .«last_price» .0) 0 0 0 (ofZ w64 (x .volume .0)) 0
+    (x .time .0)
 
 unfoldable pub tradeRow : Trade → Row
-tradeRow x = record {
-  kind = kindTrade;
-  form = x .«trade_type»;
-  status = x .status;
-  flags = x .flags;
-  party = x .account .0;
-  id = x .no .0;
-  symbol = x .symbol;
-  n1 = low (x .shares .0);
-  n2 = x .bid .0;
-  n3 = x .price .0;
-  n4 = low (x .charge .0);
-  m1 = ofZ w64 (x .commission .0);
-  m2 = ofZ w64 (x .tax .0);
-  time = x .time .0;
-  n5 = 0;
-}
+tradeRow x =
+    gridRow kindTrade (x .«trade_type») (x .status) (x .flags) (x .account .0) (x .no .0) (x .symbol)
+    (low (x .shares .0)) (x .bid .0) (x .price .0) (low (x .charge .0)) (ofZ w64 (x .commission .0))
+    (ofZ w64 (x .tax .0)) (x .time .0)
 
 unfoldable pub requestRow : Request → Row
-requestRow x = record {
-  kind = kindRequest;
-  form = x .«trade_type»;
-  status = 0;
-  flags = 0;
-  party = x .broker .0;
-  id = x .no .0;
-  symbol = x .symbol;
-  n1 = low (x .shares .0);
-  n2 = x .bid .0;
-  n3 = 0;
-  n4 = 0;
-  m1 = 0;
-  m2 = 0;
-  time = 0;
-  n5 = 0;
-}
+requestRow x =
+    gridRow kindRequest (x .«trade_type») 0 0 (x .broker .0) (x .no .0) (x .symbol) (low (x .shares .0)) (x .bid .0) 0
+    0 0 0 0
 
 unfoldable pub tradeHistoryRow : TradeHistory → Row
-tradeHistoryRow x = record {
-  kind = kindTradeHistory;
-  form = 0;
-  status = x .status;
-  flags = 0;
-  party = 0;
-  id = x .no .0;
-  symbol = noSymbol;
-  n1 = 0;
-  n2 = 0;
-  n3 = 0;
-  n4 = 0;
-  m1 = 0;
-  m2 = 0;
-  time = x .time .0;
-  n5 = 0;
-}
+tradeHistoryRow x = gridRow kindTradeHistory 0 (x .status) 0 0 (x .no .0) noSymbol 0 0 0 0 0 0 (x .time .0)
 
 unfoldable pub lotRow : Lot → Row
-lotRow x = record {
-  kind = kindLot;
-  form = 0;
-  status = 0;
-  flags = 0;
-  party = x .account .0;
-  id = x .no .0;
-  symbol = x .symbol;
-  n1 = x .price .0;
-  n2 = 0;
-  n3 = 0;
-  n4 = 0;
-  m1 = ofZ w64 (x .shares .0);
-  m2 = 0;
-  time = x .time .0;
-  n5 = 0;
-}
+lotRow x =
+    gridRow kindLot 0 0 0 (x .account .0) (x .no .0) (x .symbol) (x .price .0) 0 0 0 (ofZ w64 (x .shares .0)) 0
+    (x .time .0)
 
 unfoldable pub summaryRow : Summary → Row
-summaryRow x = record {
-  kind = kindSummary;
-  form = 0;
-  status = 0;
-  flags = 0;
-  party = x .account .0;
-  id = 0;
-  symbol = x .symbol;
-  n1 = 0;
-  n2 = 0;
-  n3 = 0;
-  n4 = 0;
-  m1 = ofZ w64 (x .shares .0);
-  m2 = 0;
-  time = 0;
-  n5 = 0;
-}
+summaryRow x = gridRow kindSummary 0 0 0 (x .account .0) 0 (x .symbol) 0 0 0 0 (ofZ w64 (x .shares .0)) 0 0
 
 unfoldable pub lotHistoryRow : LotHistory → Row
-lotHistoryRow x = record {
-  kind = kindLotHistory;
-  form = 0;
-  status = 0;
-  flags = 0;
-  party = 0;
-  id = x .lot .0;
-  symbol = noSymbol;
-  n1 = low (x .before .0);
-  n2 = low (x .after .0);
-  n3 = 0;
-  n4 = 0;
-  m1 = 0;
-  m2 = x .by .0;
-  time = 0;
-  n5 = 0;
-}
+lotHistoryRow x =
+    gridRow kindLotHistory 0 0 0 0 (x .lot .0) noSymbol (low (x .before .0)) (low (x .after .0)) 0 0 0 (x .by .0) 0
 
 unfoldable pub settlementRow : Settlement → Row
-settlementRow x = record {
-  kind = kindSettlement;
-  form = 0;
-  status = 0;
-  flags = x .cash;
-  party = 0;
-  id = x .no .0;
-  symbol = noSymbol;
-  n1 = 0;
-  n2 = 0;
-  n3 = 0;
-  n4 = 0;
-  m1 = ofZ w64 (x .amount .0);
-  m2 = 0;
-  time = x .due .0;
-  n5 = 0;
-}
+settlementRow x =
+    gridRow kindSettlement 0 0 (x .cash) 0 (x .no .0) noSymbol 0 0 0 0 (ofZ w64 (x .amount .0)) 0 (x .due .0)
 
 unfoldable pub cashRow : Cash → Row
-cashRow x = record {
-  kind = kindCash;
-  form = 0;
-  status = 0;
-  flags = 0;
-  party = 0;
-  id = x .no .0;
-  symbol = noSymbol;
-  n1 = 0;
-  n2 = 0;
-  n3 = 0;
-  n4 = 0;
-  m1 = ofZ w64 (x .amount .0);
-  m2 = 0;
-  time = x .time .0;
-  n5 = 0;
-}
+cashRow x = gridRow kindCash 0 0 0 0 (x .no .0) noSymbol 0 0 0 0 (ofZ w64 (x .amount .0)) 0 (x .time .0)

@@ -21,63 +21,64 @@ use Rattle.kinds.specs.Written.{settlementRow, summaryRow, tradeHistoryRow, tra
 use Rattle.rules.specs.Meaning.{Account, Broker, Cash, Lot, LotHistory, Request, Security, Settlement, Summary}
 use Rattle.rules.specs.Meaning.{Trade, TradeHistory}
 
-none : (x : ℕ) → x ≤ 0 → 0 ≡ x
+pub none : (x : ℕ) → x ≤ 0 → 0 ≡ x
 none x h = omega arith
 
-only : (k x : ℕ) → k ≤ x → x ≤ k → k ≡ x
+pub only : (k x : ℕ) → k ≤ x → x ≤ k → k ≡ x
 only k x h g = omega arith
 
-no-symbol : (s : Symbol) → symbolNumber s ≤ 0 → noSymbol ≡ s
+pub no-symbol : (s : Symbol) → symbolNumber s ≤ 0 → noSymbol ≡ s
 no-symbol s h = ap numbered (none (symbolNumber s) h)
 
-whole64 : (x n : ℕ) → x ≤ n → T (leb n 18446744073709551615) → ofZ w64 (toZ w64 x) ≡ x
+pub whole64 : (x n : ℕ) → x ≤ n → T (leb n 18446744073709551615) → ofZ w64 (toZ w64 x) ≡ x
 whole64 x n h k = back64 x (le-trans h (leb→le n 18446744073709551615 k))
 
-whole32 : (x n : ℕ) → x ≤ n → T (leb n 4294967295) → low (pos x) ≡ x
+pub whole32 : (x n : ℕ) → x ≤ n → T (leb n 4294967295) → low (pos x) ≡ x
 whole32 x n h k = low-nat x (le-trans h (leb→le n 4294967295 k))
 
-ruleset fields = (row-eq, none, only, no-symbol, whole64, whole32, low-back)
+-- for the row of a typed value, field by field
+pub ruleset written = (row-eq, none, only, no-symbol, whole64, whole32, low-back)
 
 pub broker-written : (r : Row) → Broker r → brokerRow (brokerOf r) ≡ r
 unfolding brokerRow brokerOf
-broker-written r h = search fields
+broker-written r h = search written
 
 pub account-written : (r : Row) → Account r → accountRow (accountOf r) ≡ r
 unfolding accountRow accountOf
-account-written r h = search fields
+account-written r h = search written
 
 pub security-written : (r : Row) → Security r → securityRow (securityOf r) ≡ r
 unfolding securityRow securityOf
-security-written r h = search fields
+security-written r h = search written
 
 pub trade-written : (r : Row) → Trade r → tradeRow (tradeOf r) ≡ r
 unfolding tradeRow tradeOf
-trade-written r h = search fields
+trade-written r h = search written
 
 pub request-written : (r : Row) → Request r → requestRow (requestOf r) ≡ r
 unfolding requestRow requestOf
-request-written r h = search fields
+request-written r h = search written
 
 pub trade-history-written : (r : Row) → TradeHistory r → tradeHistoryRow (tradeHistoryOf r) ≡ r
 unfolding tradeHistoryRow tradeHistoryOf
-trade-history-written r h = search fields
+trade-history-written r h = search written
 
 pub lot-written : (r : Row) → Lot r → lotRow (lotOf r) ≡ r
 unfolding lotRow lotOf
-lot-written r h = search fields
+lot-written r h = search written
 
 pub summary-written : (r : Row) → Summary r → summaryRow (summaryOf r) ≡ r
 unfolding summaryRow summaryOf
-summary-written r h = search fields
+summary-written r h = search written
 
 pub lot-history-written : (r : Row) → LotHistory r → lotHistoryRow (lotHistoryOf r) ≡ r
 unfolding lotHistoryRow lotHistoryOf
-lot-history-written r h = search fields
+lot-history-written r h = search written
 
 pub settlement-written : (r : Row) → Settlement r → settlementRow (settlementOf r) ≡ r
 unfolding settlementRow settlementOf
-settlement-written r h = search fields
+settlement-written r h = search written
 
 pub cash-written : (r : Row) → Cash r → cashRow (cashOf r) ≡ r
 unfolding cashRow cashOf
-cash-written r h = search fields
+cash-written r h = search written

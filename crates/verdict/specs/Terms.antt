@@ -8,12 +8,12 @@ use native.Mathlib.Omega.{arith}
 use lib.Dec.{eqb, ltb}
 use Rattle.laws.specs.Search.{place}
 use Rattle.record.specs.Codes.{kindFree, kindResult}
-use Rattle.record.specs.Grid.{row-eq}
 use Rattle.record.specs.Signed.{up}
-use Rattle.record.specs.Symbol.{noSymbol, numbered, symbolNumber}
+use Rattle.record.specs.Symbol.{noSymbol}
 use Rattle.record.specs.declared.row.Row.{Row}
 use Rattle.kinds.specs.Inputs.{resultInputOf}
 use Rattle.kinds.specs.Kinds.{accountOf, brokerOf, summaryOf, tradeOf}
+use Rattle.kinds.specs.Written.{gridRow}
 use Rattle.kinds.specs.declared.inputs.ResultInput.{ResultInput}
 use Rattle.kinds.specs.declared.rows.Account.{Account}
 use Rattle.kinds.specs.declared.rows.Broker.{Broker}
@@ -23,6 +23,7 @@ use Rattle.kinds.specs.declared.units.PerHundredThousand.{PerHundredThousand}
 use Rattle.kinds.specs.declared.units.PerTenThousand.{PerTenThousand}
 use Rattle.rules.specs.Meaning.{means-result-input}
 use Rattle.rules.specs.Rules.{resultInput}
+use Rattle.rules.specs.Typed.{written}
 use Rattle.rules.specs.declared.key.Key.{Key}
 use Rattle.model.specs.Band.{bandRate}
 use Rattle.model.specs.Names.{aBroker, aCustomer, aSecurity, aSummary, aTrade, anAccount}
@@ -38,50 +39,11 @@ use Rattle.verdict.specs.declared.terms.Terms.{Terms}
 
 -- ---- the row of an input
 abbrev pub inputRow : ResultInput → Row
-inputRow x = record {
-  kind = kindResult;
-  form = 0;
-  status = 0;
-  flags = 0;
-  party = 0;
-  id = x .trade .0;
-  symbol = noSymbol;
-  n1 = x .price .0;
-  n2 = 0;
-  n3 = 0;
-  n4 = 0;
-  m1 = 0;
-  m2 = 0;
-  time = x .time .0;
-  n5 = 0;
-}
-
-none : (x : ℕ) → x ≤ 0 → 0 ≡ x
-none x h = omega arith
-
-only : (k x : ℕ) → k ≤ x → x ≤ k → k ≡ x
-only k x h g = omega arith
+inputRow x = gridRow kindResult 0 0 0 0 (x .trade .0) noSymbol (x .price .0) 0 0 0 0 0 (x .time .0)
 
 pub input-written : (r : Row) → resultInput r ≡ true → inputRow (resultInputOf r) ≡ r
 unfolding resultInputOf
-input-written r e =
-    let l = means-result-input r .shows e in
-    row-eq
-    (only kindResult (r .kind) (l .0) (l .1))
-    (none (r .form) (l .2 .1))
-    (none (r .status) (l .2 .2 .1))
-    (none (r .flags) (l .2 .2 .2 .1))
-    (none (r .party) (l .2 .2 .2 .2 .1))
-    refl
-    (ap numbered (none (symbolNumber (r .symbol)) (l .2 .2 .2 .2 .2 .2 .1)))
-    refl
-    (none (r .n2) (l .2 .2 .2 .2 .2 .2 .2 .2 .1))
-    (none (r .n3) (l .2 .2 .2 .2 .2 .2 .2 .2 .2 .1))
-    (none (r .n4) (l .2 .2 .2 .2 .2 .2 .2 .2 .2 .2 .1))
-    (none (r .m1) (l .2 .2 .2 .2 .2 .2 .2 .2 .2 .2 .2 .1))
-    (none (r .m2) (l .2 .2 .2 .2 .2 .2 .2 .2 .2 .2 .2 .2 .1))
-    refl
-    (none (r .n5) (l .2 .2 .2 .2 .2 .2 .2 .2 .2 .2 .2 .2 .2 .2 .1))
+input-written r e = let l = means-result-input r .shows e in search written
 
 -- ---- the places of the rows that a trade leads to
 unfoldable pub placesOf : List Row → ℕ → Places
