@@ -33,10 +33,10 @@ use record::row::Row;
 use record::symbol::Symbol;
 
 // The row of a free record.
-struct Blank {}
+pub struct Blank {}
 
 impl Blank {
-    const ROW: Row = Row {
+    pub const ROW: Row = Row {
         kind: 0,
         form: 0,
         status: 0,

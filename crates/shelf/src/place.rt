@@ -5,33 +5,17 @@ ghost use lib.ListN.{length};
 ghost use Rattle.record.specs.Grid.{decode};
 ghost use Rattle.model.specs.Rows.{nothing, places, recordSize};
 ghost use Rattle.shelf.specs.Rows.{rowAt};
+use kinds::rows::Blank;
 use record::row::Grid;
 use record::row::Row;
 use record::row::copy;
 use record::row::places;
-use record::symbol::Symbol;
 
 // The row of a free record.
 pub fn nothing() -> Row
     ensures { λ r. ⌜ r ≡ nothing ⌝ }
 {
-    Row {
-        kind: 0,
-        form: 0,
-        status: 0,
-        flags: 0,
-        party: 0,
-        id: 0,
-        symbol: Symbol::NONE,
-        n1: 0,
-        n2: 0,
-        n3: 0,
-        n4: 0,
-        m1: 0,
-        m2: 0,
-        time: 0,
-        n5: 0,
-    }
+    Blank::ROW
 }
 
 // The bytes of the record at a place.
