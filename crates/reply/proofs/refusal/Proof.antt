@@ -8,12 +8,12 @@ use Rattle.reply.specs.Refusal.{refusal}
 returns : tie.Need-returns
 unfolding refusal
 returns c =
-    let code = c .before in
-    let nothing = code .before in
-    let start = nothing .before in
-    let number = code .code in
-    rw
-    (nothing .nothing .ensures, c .bits32 .ensures, number-back (number .result) (start .args .s) (number .ensures))
+    let code = c .before .code in
+    rw (
+      c .before .before .nothing .ensures,
+      c .bits32 .ensures,
+      number-back (code .result) (c .before .before .before .args .s) (code .ensures),
+    )
 
 pub refusal-spec : {M : Type 1} → statement M
 refusal-spec = tie.close (tie.spec (λ c κs. search needs) (λ c κs. search needs) (λ c κs. search needs) returns)

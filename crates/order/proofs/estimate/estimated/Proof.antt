@@ -20,18 +20,8 @@ commission-requires c κs =
     let ranged = start .pre .1 .1 in
     (ranged .rate, fits .shares .most, price-fits (a .input) (a .terms) fits ranged (used .price-used .ensures))
 
-returns : tie.Need-returns
-returns c =
-    let untaxed = c .before in
-    let tax = untaxed .before in
-    let closed = tax .before in
-    let used = closed .before in
-    let a = used .before .before .before .before .args in
-    estimate-is _ (a .input) (a .terms) (used .price-used .ensures) (closed .closed .ensures .0) (tax .tax .ensures .0)
-    (untaxed .untaxed .ensures) (c .commission .ensures .0)
-
 pub estimated-spec : {M : Type 1} → statement M
 estimated-spec =
     tie.close
     (tie.spec (λ c κs. search needs) closed-requires (λ c κs. search needs) (λ c κs. search needs) commission-requires
-    returns)
+    (λ c. search (needs, estimate-is)))

@@ -4,24 +4,9 @@ use Rattle.order.specs.Post.{answerOf}
 use Rattle.order.proofs.post.answer_row.Statement.{statement}
 use Rattle.order.proofs.post.answer_row.Tie as tie
 
-returns : tie.Need-returns
-unfolding answerOf
-returns c =
-    let bought = c .before in
-    let charge = bought .before in
-    let turned = charge .before in
-    let tax = turned .before in
-    rw (
-      tax .before .nothing .ensures,
-      turned .holding .ensures,
-      tax .bits .ensures,
-      charge .low .ensures,
-      bought .bits2 .ensures,
-      c .bits3 .ensures,
-    )
-
 pub answer-row-spec : {M : Type 1} → statement M
+unfolding answerOf
 answer-row-spec =
     tie.close
     (tie.spec (λ c κs. search needs) (λ c κs. search needs) (λ c κs. search needs) (λ c κs. search needs)
-    (λ c κs. search needs) (λ c κs. search needs) returns)
+    (λ c κs. search needs) (λ c κs. search needs) (λ c. cc))

@@ -7,24 +7,19 @@ use Rattle.verdict.proofs.figures.figured.Tie as tie
 returns : tie.Need-returns
 unfolding figuresBy
 returns c =
-    let balance = c .before in
-    let flag = balance .before in
-    let untaxed = flag .before in
-    let amount = untaxed .before in
-    let worth = amount .before in
-    let fee = worth .before in
-    let tax = fee .before in (
+    let worth = c .before .before .before .before .before in
+    let fee = worth .before in (
       rw (
         c .summed .ensures .0,
-        balance .balance .ensures .0,
-        flag .is-cash .ensures,
-        untaxed .untaxed .ensures,
-        amount .settlement .ensures .0,
+        c .before .balance .ensures .0,
+        c .before .before .is-cash .ensures,
+        c .before .before .before .untaxed .ensures,
+        c .before .before .before .before .settlement .ensures .0,
         worth .value .ensures .0,
         fee .commission .ensures .0,
-        tax .tax .ensures .0,
+        fee .before .tax .ensures .0,
       ),
-      (fee .commission .ensures .1, tax .tax .ensures .1),
+      (fee .commission .ensures .1, fee .before .tax .ensures .1),
     )
 
 pub figured-spec : {M : Type 1} → statement M

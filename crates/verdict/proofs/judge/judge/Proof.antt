@@ -7,21 +7,16 @@ use Rattle.verdict.proofs.judge.judge.Tie as tie
 returns : tie.Need-returns
 unfolding judgment
 returns c =
-    let many = c .before in
-    let fifth = many .before in
-    let fits = fifth .before in
-    let fourth = fits .before in
-    let third = fourth .before .before in
-    let second = third .before .before in
+    let third = c .before .before .before .before .before .before in
     rw (
       c .also6 .ensures,
-      many .rows-added .ensures,
-      fifth .also5 .ensures,
-      fits .in-range .ensures,
-      fourth .also4 .ensures,
+      c .before .rows-added .ensures,
+      c .before .before .also5 .ensures,
+      c .before .before .before .in-range .ensures,
+      c .before .before .before .before .also4 .ensures,
       third .also3 .ensures,
-      second .also2 .ensures,
-      second .before .before .also .ensures,
+      third .before .before .also2 .ensures,
+      third .before .before .before .before .also .ensures,
     )
 
 pub judge-spec : {M : Type 1} → statement M
