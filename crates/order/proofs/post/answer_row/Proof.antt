@@ -4,9 +4,21 @@ use Rattle.order.specs.Post.{answerOf}
 use Rattle.order.proofs.post.answer_row.Statement.{statement}
 use Rattle.order.proofs.post.answer_row.Tie as tie
 
-pub answer-row-spec : {M : Type 1} → statement M
+returns : tie.Need-returns
 unfolding answerOf
+returns c =
+    let tax = c .before .before .before .before in
+    rw (
+      tax .before .nothing .ensures,
+      c .before .before .before .holding .ensures,
+      tax .bits .ensures,
+      c .before .before .low .ensures,
+      c .before .bits2 .ensures,
+      c .bits3 .ensures,
+    )
+
+pub answer-row-spec : {M : Type 1} → statement M
 answer-row-spec =
     tie.close
     (tie.spec (λ c κs. search needs) (λ c κs. search needs) (λ c κs. search needs) (λ c κs. search needs)
-    (λ c κs. search needs) (λ c κs. search needs) (λ c. cc))
+    (λ c κs. search needs) (λ c κs. search needs) returns)

@@ -4,15 +4,8 @@ use Rattle.order.specs.Terms.{paper-is}
 use Rattle.order.proofs.terms.paper_of.Statement.{statement}
 use Rattle.order.proofs.terms.paper_of.Tie as tie
 
-returns : tie.Need-returns
-returns c =
-    let bytes = c .before in
-    let read = bytes .before .before in
-    paper-is _ (c .places .ensures) _ (read .before .security .ensures) (read .record-at .ensures .1)
-    (bytes .from-bytes .ensures)
-
 pub paper-of-spec : {M : Type 1} → statement M
 paper-of-spec =
     tie.close
     (tie.spec (λ c κs. search needs) (λ c κs. search needs) (λ c. search needs) (λ c κs. search needs)
-    (λ c κs. search needs) returns)
+    (λ c κs. search needs) (λ c. search (needs, paper-is)))
