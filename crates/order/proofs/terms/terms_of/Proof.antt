@@ -21,8 +21,27 @@ add-t13 c =
     let is = start .pre .0 .largest in
     record { fits = omega arith }
 
+returns : tie.Need-returns
+returns c =
+    let rate = c .before in
+    let rates = rate .before in
+    let charge = rates .before in
+    let tier = charge .before in
+    let paper = tier .before .before in
+    let holder = paper .before in
+    let start = holder .before .before .before in
+    terms-are _ (start .args .input) (holder .holder-of .ensures) (paper .paper-of .ensures) (tier .tier-of .ensures)
+    (charge .charge-of .ensures) (rates .tax-rates .ensures) (rate .rate .ensures) (start .pre .0 .largest)
+
 pub terms-of-spec : {M : Type 1} → statement M
 terms-of-spec =
     tie.close
-    (tie.spec (λ c κs. search needs) (λ c κs. search needs) (λ c κs. search needs) (λ c κs. search needs)
-    tax-rates-requires (λ c κs. search needs) add-t13 (λ c. search (needs, terms-are)))
+    (tie.spec
+    (λ c κs. search needs)
+    (λ c κs. search needs)
+    (λ c κs. search needs)
+    (λ c κs. search needs)
+    tax-rates-requires
+    (λ c κs. search needs)
+    add-t13
+    returns)
