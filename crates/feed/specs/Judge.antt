@@ -9,6 +9,7 @@ use native.Mathlib.Omega.{arith}
 use lib.Dec.{eqb, leb, ltb}
 use lib.ListN.{length, take}
 use lib.Seq.{slice, slice-cons, slice-empty}
+use borrow.Author.Needs.{needs}
 use borrow.Author.Tests.{le-leb, leb-true, lt-leb}
 use Rattle.laws.specs.Search.{count, every, place, run, total}
 use Rattle.laws.specs.Tests.{and-right, one-truth}
@@ -28,6 +29,7 @@ use Rattle.model.specs.Sound.{sound}
 use Rattle.facts.specs.Rows.{length-rows}
 use Rattle.facts.specs.Feed.{sharesFor, volumes-fit}
 use Rattle.facts.specs.Checks.{passed}
+use Rattle.shelf.specs.Loop.{loops}
 use Rattle.shelf.specs.Rows.{rowAt}
 use Rattle.directory.specs.Found.{key-row, key-there}
 use Rattle.kinds.specs.Inputs.{feedInputOf}
@@ -106,7 +108,10 @@ module _ {r : Request} {b : List ℕ} {k : ℕ} {w : Bool} {i : ℕ} (s : Hittin
       let l : anyReaches (slice i k (rows b)) r ≡ false = rw (e, slice-empty k (rows b)) in
       sym l ∙ s .same
 
-pub ruleset hitting = (hit-start, hit-found, hit-more, hit-none)
+pub ruleset hitting = (needs, hit-start, hit-found, hit-more, hit-none)
+
+-- a test of every entry, and a sum over all
+pub ruleset each = (needs, loops)
 
 -- ---- sums
 pub few-inputs : (n : ℕ) → wholeRecords mostInputs n ≡ true → n / 64 ≤ mostInputs

@@ -1,17 +1,18 @@
 // The rules of the four kinds of input, decided on the record's own bytes: what breaks one is -103.
 ghost use mathlib.Core.Path.{_≡_};
+ghost use Prim.Native.Nat.{_<_};
 ghost use lib.ListN.{length};
 ghost use Rattle.laws.specs.Search.{every};
 ghost use Rattle.record.specs.Grid.{decode};
-ghost use Rattle.rules.specs.Rules.{feedInput, lookupInput, orderInput, resultInput};
+ghost use Rattle.rules.specs.Rules.{feedInput, lookupInput, obeys, orderInput, resultInput, shapeOf};
 ghost use Rattle.model.specs.Rows.{rows};
 use kinds::inputs::FeedInput;
 use kinds::inputs::LookupInput;
 use kinds::inputs::OrderInput;
 use kinds::inputs::ResultInput;
+use kinds::limits::Rule;
 use record::row::Grid;
 use record::row::Row;
-use rules::limited::in_limits;
 use rules::obey::obeys;
 use shelf::place::row_at;
 
@@ -25,22 +26,6 @@ fn result(r: Row) -> bool
     ensures { λ b. ⌜ b ≡ resultInput r ⌝ }
 {
     obeys(r, ResultInput::RULE)
-}
-
-// Of a list of up to twenty records each is checked against its limits alone, which the compiler folds into the tests.
-fn feed(r: Row) -> bool
-    ensures { λ b. ⌜ b ≡ feedInput r ⌝ }
-{
-    let rule = FeedInput::RULE;
-    let symbol = r.symbol;
-    in_limits(r, rule.limits) & symbol.ok()
-}
-
-fn lookup(r: Row) -> bool
-    ensures { λ b. ⌜ b ≡ lookupInput r ⌝ }
-{
-    let rule = LookupInput::RULE;
-    in_limits(r, rule.limits)
 }
 
 pub fn is_order(part: &[u8]) -> bool
@@ -57,14 +42,15 @@ pub fn is_result(part: &[u8]) -> bool
     result(Row::read(part))
 }
 
-// Every record of an input.
-pub fn all_feed(input: &[u8]) -> bool
-    ensures { λ b. ⌜ b ≡ every feedInput (rows (now (input .entry))) ⌝ }
+// Every record of an input obeys the rule.
+fn all(input: &[u8], rule: Rule) -> bool
+    requires { ⌜ (rule .m1 < 9223372036854775808) × (rule .n1n2 < 2147483648) ⌝ }
+    ensures { λ b. ⌜ b ≡ every (obeys (shapeOf rule)) (rows (now (input .entry))) ⌝ }
 {
     let n = input.len() / Grid::SIZE;
     let mut i = 0;
     while i < n {
-        if feed(row_at(input, i)) {
+        if obeys(row_at(input, i), rule) {
             i += 1;
         } else {
             return false;
@@ -73,18 +59,14 @@ pub fn all_feed(input: &[u8]) -> bool
     true
 }
 
-// Every record of an input.
+pub fn all_feed(input: &[u8]) -> bool
+    ensures { λ b. ⌜ b ≡ every feedInput (rows (now (input .entry))) ⌝ }
+{
+    all(input, FeedInput::RULE)
+}
+
 pub fn all_lookup(input: &[u8]) -> bool
     ensures { λ b. ⌜ b ≡ every lookupInput (rows (now (input .entry))) ⌝ }
 {
-    let n = input.len() / Grid::SIZE;
-    let mut i = 0;
-    while i < n {
-        if lookup(row_at(input, i)) {
-            i += 1;
-        } else {
-            return false;
-        }
-    }
-    true
+    all(input, LookupInput::RULE)
 }

@@ -3,9 +3,8 @@
 use Prim.Native.Nat.{_-_}
 use Rattle.model.specs.Names.{aSecurity}
 use Rattle.model.specs.Rows.{rows, there}
-use Rattle.shelf.specs.Loop.{Checked, loops}
-use Rattle.feed.specs.Judge.{allKnown}
-use borrow.Author.Needs.{needs}
+use Rattle.shelf.specs.Loop.{Checked}
+use Rattle.feed.specs.Judge.{allKnown, each}
 use Rattle.feed.proofs.judge.all_known.Statement.{statement}
 use Rattle.feed.proofs.judge.all_known.Tie as tie
 
@@ -13,12 +12,8 @@ abbrev Inv-loop : tie.InvT-loop
 Inv-loop book dir input n i₀ i =
     Checked (λ e. there (aSecurity (e .symbol)) (rows book)) input (allKnown (rows book) (rows input)) i
 
-abbrev μ-loop : tie.MeasureT-loop
-μ-loop book dir input n i₀ i = n - i
-
 pub all-known-spec : {M : Type 1} → statement M
 all-known-spec =
     tie.close
-    (tie.spec Inv-loop μ-loop (λ c. search (needs, loops)) (λ c κs. search (needs, loops))
-    (λ c. search (needs, loops)) (λ c. search (needs, loops)) (λ c. search (needs, loops))
-    (λ c. search (needs, loops)) (λ c. search (needs, loops)))
+    (tie.spec Inv-loop (λ b d p n s i. n - i) (λ c. search each) (λ c κs. search each) (λ c. search each)
+    (λ c. search each) (λ c. search each) (λ c. search each) (λ c. search each))

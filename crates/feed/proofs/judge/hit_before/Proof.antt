@@ -5,19 +5,14 @@ use lib.ListN.{take}
 use Rattle.model.specs.Rows.{rows}
 use Rattle.feed.specs.Hits.{anyReaches}
 use Rattle.feed.specs.Judge.{Hitting, hitting}
-use borrow.Author.Needs.{needs}
 use Rattle.feed.proofs.judge.hit_before.Statement.{statement}
 use Rattle.feed.proofs.judge.hit_before.Tie as tie
 
 abbrev Inv-loop : tie.InvT-loop
 Inv-loop input k request i₀ i = Hitting request input k (anyReaches (take k (rows input)) request) i
 
-abbrev μ-loop : tie.MeasureT-loop
-μ-loop input k request i₀ i = k - i
-
 pub hit-before-spec : {M : Type 1} → statement M
 hit-before-spec =
     tie.close
-    (tie.spec Inv-loop μ-loop (λ c. search (needs, hitting)) (λ c κs. search (needs, hitting))
-    (λ c κs. search (needs, hitting)) (λ c. search (needs, hitting)) (λ c. search (needs, hitting))
-    (λ c. search (needs, hitting)) (λ c. search (needs, hitting)) (λ c. search (needs, hitting)))
+    (tie.spec Inv-loop (λ p k r s i. k - i) (λ c. search hitting) (λ c κs. search hitting) (λ c κs. search hitting)
+    (λ c. search hitting) (λ c. search hitting) (λ c. search hitting) (λ c. search hitting) (λ c. search hitting))

@@ -3,9 +3,8 @@
 use Prim.Native.Nat.{_-_}
 use Rattle.laws.specs.Search.{every}
 use Rattle.model.specs.Rows.{rows}
-use Rattle.shelf.specs.Loop.{Checked, loops}
-use Rattle.feed.specs.Judge.{volumeFits}
-use borrow.Author.Needs.{needs}
+use Rattle.shelf.specs.Loop.{Checked}
+use Rattle.feed.specs.Judge.{each, volumeFits}
 use Rattle.feed.proofs.judge.volumes_fit.Statement.{statement}
 use Rattle.feed.proofs.judge.volumes_fit.Tie as tie
 
@@ -13,12 +12,8 @@ abbrev Inv-loop : tie.InvT-loop
 Inv-loop book dir input all n i₀ i =
     Checked (volumeFits (rows book) (rows input)) input (every (volumeFits (rows book) (rows input)) (rows input)) i
 
-abbrev μ-loop : tie.MeasureT-loop
-μ-loop book dir input all n i₀ i = n - i
-
 pub volumes-fit-spec : {M : Type 1} → statement M
 volumes-fit-spec =
     tie.close
-    (tie.spec Inv-loop μ-loop (λ c κs. search needs) (λ c. search (needs, loops)) (λ c κs. search (needs, loops))
-    (λ c. search (needs, loops)) (λ c. search (needs, loops)) (λ c. search (needs, loops))
-    (λ c. search (needs, loops)) (λ c. search (needs, loops)))
+    (tie.spec Inv-loop (λ b d p a n s i. n - i) (λ c κs. search each) (λ c. search each) (λ c κs. search each)
+    (λ c. search each) (λ c. search each) (λ c. search each) (λ c. search each) (λ c. search each))

@@ -1,0 +1,23 @@
+-- The invariant: the records from place i on decide the whole. The measure is the number of records left. Assumes
+-- nothing.
+use Prim.Native.Nat.{_-_}
+use borrow.Author.Needs.{needs}
+use Rattle.laws.specs.Search.{every}
+use Rattle.rules.specs.Rules.{obeys, shapeOf}
+use Rattle.model.specs.Rows.{rows}
+use Rattle.shelf.specs.Loop.{Checked, loops}
+use Rattle.inputs.proofs.all.Statement.{statement}
+use Rattle.inputs.proofs.all.Tie as tie
+
+abbrev Inv-loop : tie.InvT-loop
+Inv-loop input rule n i₀ i = Checked (obeys (shapeOf rule)) input (every (obeys (shapeOf rule)) (rows input)) i
+
+abbrev μ-loop : tie.MeasureT-loop
+μ-loop input rule n i₀ i = n - i
+
+pub all-spec : {M : Type 1} → statement M
+all-spec =
+    tie.close
+    (tie.spec Inv-loop μ-loop (λ c. search (needs, loops)) (λ c κs. search (needs, loops))
+    (λ c κs. search (needs, loops)) (λ c. search (needs, loops)) (λ c. search (needs, loops))
+    (λ c. search (needs, loops)) (λ c. search (needs, loops)) (λ c. search (needs, loops)))
