@@ -29,10 +29,10 @@ use Rattle.facts.specs.Rows.{length-rows}
 use Rattle.shelf.specs.Rows.{rowAt}
 use Rattle.directory.specs.Listed.{places}
 use Rattle.directory.specs.declared.totals.Totals.{Totals}
-use Rattle.feed.specs.Due.{Going, after-quote, fresh-submits, going-on}
-use Rattle.feed.specs.Gather.{Gathered}
-use Rattle.feed.specs.Hits.{firstHit, fresh}
-use Rattle.feed.specs.Judge.{volumeFits}
+use Rattle.hits.specs.Due.{Going, after-quote, fresh-submits, going-on}
+use Rattle.hits.specs.Gather.{Gathered}
+use Rattle.hits.specs.Hits.{firstHit, fresh}
+use Rattle.hits.specs.Judge.{volumeFits}
 use Rattle.feed.specs.Submit.{Asking, Ready, numbers, quoted-is, quotedBy, sentIn}
 
 abbrev first : List ℕ → Fed

@@ -24,7 +24,7 @@ use Rattle.facts.specs.Rows.{length-rows}
 use Rattle.shelf.specs.Rows.{rowAt}
 use Rattle.directory.specs.Listed.{places}
 use Rattle.groups.specs.Sums.{requestOn}
-use Rattle.feed.specs.Hits.{anyReaches, due, hit-one-more, hitBy, hits, reaches}
+use Rattle.hits.specs.Hits.{anyReaches, due, hit-one-more, hitBy, hits, reaches}
 
 -- what an entry leaves of a row
 abbrev pub leaves : FeedInput → Row → Row

@@ -27,9 +27,9 @@ use Rattle.facts.specs.Rows.{clean-fit}
 use Rattle.directory.specs.Directory.{Directory}
 use Rattle.directory.specs.declared.totals.Totals.{Totals}
 use Rattle.feed.specs.Apply.{Ahead}
-use Rattle.feed.specs.Due.{going-start, swept-due, trades-due}
-use Rattle.feed.specs.Hits.{due}
-use Rattle.feed.specs.Judge.{allKnown, volumeFits}
+use Rattle.hits.specs.Due.{going-start, swept-due, trades-due}
+use Rattle.hits.specs.Hits.{due}
+use Rattle.hits.specs.Judge.{allKnown, volumeFits}
 use Rattle.feed.specs.Submit.{written-start}
 use Rattle.feed.specs.Sweep.{left}
 

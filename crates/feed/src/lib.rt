@@ -10,16 +10,14 @@ ghost use Rattle.model.specs.Sound.{sound};
 ghost use Rattle.reply.specs.Left.{answerLeft, bookLeft};
 ghost use Rattle.directory.specs.Directory.{Directory};
 
-pub mod gather;
-pub mod judge;
 pub mod post;
 pub mod sweep;
 
-use crate::gather::submitted;
-use crate::judge::judge;
 use crate::post::apply_all;
 use crate::sweep::sweep;
 use directory::totals::Totals;
+use hits::gather::submitted;
+use hits::judge::judge;
 use record::codes::Kind;
 use record::row::Grid;
 use record::row::Row;

@@ -8,13 +8,13 @@ ghost use Rattle.model.specs.Rows.{is, rows};
 ghost use Rattle.shelf.specs.Rows.{rowAt};
 ghost use Rattle.directory.specs.Directory.{Directory};
 ghost use Rattle.feed.specs.Sweep.{leaves, left};
-use crate::judge::entry_at;
-use crate::judge::hits;
 use directory::build::places;
 use directory::change::free;
 use directory::totals::Totals;
 use groups::requests::first_request;
 use groups::requests::next_request;
+use hits::judge::entry_at;
+use hits::judge::hits;
 use kinds::inputs::FeedInput;
 use sorted::request_at;
 

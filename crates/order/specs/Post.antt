@@ -22,9 +22,9 @@ use Rattle.model.specs.Rows.{is, nothing, rows, sameRow}
 use Rattle.directory.specs.Added.{Added, Room, room-first, room-next}
 use Rattle.directory.specs.Directory.{Directory}
 use Rattle.directory.specs.declared.totals.Totals.{Totals}
-use Rattle.order.specs.declared.estimate.Estimate.{Estimate}
-use Rattle.order.specs.declared.terms.Terms.{Terms}
-use Rattle.order.specs.Judge.{rowsAdded}
+use Rattle.estimate.specs.declared.figures.Estimate.{Estimate}
+use Rattle.estimate.specs.declared.terms.Terms.{Terms}
+use Rattle.estimate.specs.Judge.{rowsAdded}
 
 -- ---- the rows, typed
 abbrev pub statusOf : OrderInput → ℕ

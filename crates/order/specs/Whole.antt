@@ -39,12 +39,12 @@ use Rattle.directory.specs.Added.{Room, room-start}
 use Rattle.directory.specs.Directory.{Directory}
 use Rattle.directory.specs.declared.totals.Totals.{Totals}
 use Rattle.reply.specs.Left.{answerLeft, bookLeft, left-accepted, left-refused}
-use Rattle.order.specs.declared.estimate.Estimate.{Estimate}
-use Rattle.order.specs.declared.terms.Terms.{Terms}
-use Rattle.order.specs.Estimate.{estimateOf, walkOf}
-use Rattle.order.specs.Judge.{judged, rowsAdded}
+use Rattle.estimate.specs.declared.figures.Estimate.{Estimate}
+use Rattle.estimate.specs.declared.terms.Terms.{Terms}
+use Rattle.estimate.specs.Estimate.{estimateOf, walkOf}
+use Rattle.estimate.specs.Judge.{judged, rowsAdded}
 use Rattle.order.specs.Post.{added-length, addedOf, answerOf, historyOf, requestOf, rowsAfter, tradeOf}
-use Rattle.order.specs.Terms.{termsOf}
+use Rattle.estimate.specs.Terms.{termsOf}
 
 -- ---- a row that is found is there unless it is free
 there-live : (k : Key) (rs : List Row) → eqb (k .kind) kindFree ≡ false → there k rs ≡ not (is kindFree (found k rs))

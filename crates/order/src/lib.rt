@@ -10,17 +10,14 @@ ghost use Rattle.model.specs.Sound.{sound};
 ghost use Rattle.directory.specs.Directory.{Directory};
 ghost use Rattle.reply.specs.Left.{answerLeft, bookLeft};
 
-pub mod estimate;
-pub mod judge;
 pub mod post;
-pub mod terms;
 
-use crate::estimate::estimated;
-use crate::judge::judge;
 use crate::post::answer_row;
 use crate::post::post;
-use crate::terms::terms_of;
 use directory::totals::Totals;
+use estimate::figures::estimated;
+use estimate::judge::judge;
+use estimate::terms::terms_of;
 use kinds::inputs::OrderInput;
 use reply::Ended;
 use reply::done;

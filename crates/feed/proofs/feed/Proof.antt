@@ -4,7 +4,7 @@ use mathlib.Core.Path.{_≡_, refl, sym, ap, _∙_}
 use native.Mathlib.Omega.{arith}
 use lib.ListN.{length}
 use Rattle.model.specs.Status.{isDone}
-use Rattle.feed.specs.Judge.{few-inputs, judged-done}
+use Rattle.hits.specs.Judge.{few-inputs, judged-done}
 use Rattle.feed.specs.Whole.{ahead, fed-done, fed-refused, few-trades}
 use borrow.Author.Needs.{needs}
 use Rattle.feed.proofs.feed.Statement.{statement}

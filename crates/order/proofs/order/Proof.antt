@@ -4,7 +4,7 @@ use mathlib.Core.Path.{_≡_}
 use lib.ListN.{length}
 use borrow.Author.Needs.{needs}
 use Rattle.facts.specs.Found.{sound-s1}
-use Rattle.order.specs.Terms.{fits-of, ranged}
+use Rattle.estimate.specs.Terms.{fits-of, ranged}
 use Rattle.order.specs.Whole.{has-room, order-done, order-refused}
 use Rattle.order.proofs.order.Statement.{statement}
 use Rattle.order.proofs.order.Tie as tie

@@ -1,0 +1,47 @@
+-- Each of them is what the definition has. In a sound book the rates sum to at most the whole, and the next number
+-- fits. Assumes nothing.
+use native.Mathlib.Omega.{arith}
+use borrow.Author.Needs.{needs}
+use Rattle.facts.specs.Found.{sound-s1}
+use Rattle.facts.specs.Most.{number-most, rates-most}
+use Rattle.estimate.specs.Terms.{terms-are}
+use Rattle.estimate.proofs.terms.terms_of.Statement.{statement}
+use Rattle.estimate.proofs.terms.terms_of.Tie as tie
+
+tax-rates-requires : tie.Need-tax-rates-requires
+tax-rates-requires c κs =
+    let start = c .before .before .before .before .before .before .before in
+    (start .pre .0 .listed, rates-most _ _ (start .pre .1))
+
+add-t13 : tie.Need-add-t13
+add-t13 c =
+    let read = c .before .before .before .before .before in
+    let start = read .before .before .before .before .before in
+    let most = number-most _ (sound-s1 _ (start .pre .1)) in
+    let is = start .pre .0 .largest in
+    record { fits = omega arith }
+
+returns : tie.Need-returns
+returns c =
+    let rate = c .before in
+    let rates = rate .before in
+    let charge = rates .before in
+    let tier = charge .before in
+    let paper = tier .before .before in
+    let holder = paper .before in
+    let start = holder .before .before .before in
+    terms-are _ (start .args .input) (holder .holder-of .ensures) (paper .paper-of .ensures) (tier .tier-of .ensures)
+    (charge .charge-of .ensures) (rates .tax-rates .ensures) (rate .rate .ensures) (start .pre .0 .largest)
+
+pub terms-of-spec : {M : Type 1} → statement M
+terms-of-spec =
+    tie.close
+    (tie.spec
+    (λ c κs. search needs)
+    (λ c κs. search needs)
+    (λ c κs. search needs)
+    (λ c κs. search needs)
+    tax-rates-requires
+    (λ c κs. search needs)
+    add-t13
+    returns)

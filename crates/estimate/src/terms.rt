@@ -1,0 +1,111 @@
+// What an order reads of a book, by the directory.
+ghost use mathlib.Core.Bool.{true};
+ghost use mathlib.Core.Path.{_≡_};
+ghost use lib.IntN.{pos};
+ghost use Rattle.kinds.specs.Units.{cents};
+ghost use Rattle.model.specs.Names.{aCharge, aCustomer};
+ghost use Rattle.model.specs.Rows.{found, rows};
+ghost use Rattle.model.specs.Sound.{sound};
+ghost use Rattle.directory.specs.Directory.{Directory};
+ghost use Rattle.directory.specs.Listed.{Listed};
+ghost use Rattle.estimate.specs.Terms.{holderOf, paperOf, termsOf};
+use directory::build::places;
+use directory::totals::Totals;
+use directory::typed;
+use groups::band::rate;
+use groups::sums::tax_rates;
+use kinds::inputs::OrderInput;
+use kinds::rows::Account;
+use kinds::rows::Charge;
+use kinds::rows::Customer;
+use kinds::rows::Security;
+use kinds::units::AccountNo;
+use kinds::units::Cents;
+use kinds::units::CustomerNo;
+use kinds::units::PerHundredThousand;
+use kinds::units::PerTenThousand;
+use kinds::units::TradeNo;
+use record::symbol::Symbol;
+use shelf::place::record_at;
+
+// An account, and whether it is there.
+pub struct Holder {
+    pub row: Account,
+    pub known: bool,
+}
+
+// A security, and whether it is there.
+pub struct Paper {
+    pub row: Security,
+    pub known: bool,
+}
+
+// All that an order reads, but for the lots and the room. A row that is not there is one of zeros, and so is what it
+// would have told.
+pub struct Terms {
+    pub holder: Holder,
+    pub paper: Paper,
+    pub charge: Cents,
+    pub rates: PerHundredThousand,
+    pub rate: PerTenThousand,
+    pub number: TradeNo,
+}
+
+fn holder_of(book: &[u8], dir: &[u16], no: AccountNo) -> Holder
+    requires { ⌜ Listed (now book) (now dir) ⌝ }
+    ensures { λ r. ⌜ r ≡ holderOf (rows (now (book .entry))) no ⌝ }
+{
+    let at = typed::account(book, dir, no);
+    let bytes = record_at(book, at);
+    Holder {
+        row: Account::from_bytes(&bytes),
+        known: at < places(book),
+    }
+}
+
+fn paper_of(book: &[u8], dir: &[u16], symbol: Symbol) -> Paper
+    requires { ⌜ Listed (now book) (now dir) ⌝ }
+    ensures { λ r. ⌜ r ≡ paperOf (rows (now (book .entry))) symbol ⌝ }
+{
+    let at = typed::security(book, dir, symbol);
+    let bytes = record_at(book, at);
+    Paper {
+        row: Security::from_bytes(&bytes),
+        known: at < places(book),
+    }
+}
+
+fn tier_of(book: &[u8], dir: &[u16], no: CustomerNo) -> u8
+    requires { ⌜ Listed (now book) (now dir) ⌝ }
+    ensures { λ r. ⌜ r ≡ found (aCustomer (no .0)) (rows (now (book .entry))) .form ⌝ }
+{
+    let bytes = record_at(book, typed::customer(book, dir, no));
+    Customer::from_bytes(&bytes).tier
+}
+
+fn charge_of(book: &[u8], dir: &[u16], form: u8, tier: u8) -> Cents
+    requires { ⌜ Listed (now book) (now dir) ⌝ }
+    ensures { λ r. ⌜ r ≡ cents (pos (found (aCharge form tier) (rows (now (book .entry))) .n1)) ⌝ }
+{
+    let bytes = record_at(book, typed::charge(book, dir, form, tier));
+    Charge::from_bytes(&bytes).amount
+}
+
+pub fn terms_of(book: &[u8], dir: &[u16], t: Totals, input: OrderInput) -> Terms
+    requires { ⌜ Directory (now book) (now dir) t × (sound (rows (now book)) ≡ true) ⌝ }
+    ensures { λ r. ⌜ r ≡ termsOf (rows (now (book .entry))) input ⌝ }
+{
+    let form = input.trade_type;
+    let holder = holder_of(book, dir, input.account);
+    let paper = paper_of(book, dir, input.symbol);
+    let customer = holder.row.customer;
+    let tier = tier_of(book, dir, customer);
+    Terms {
+        holder,
+        paper,
+        charge: charge_of(book, dir, form, tier),
+        rates: tax_rates(book, dir, customer),
+        rate: rate(book, dir, form, tier, paper.row.exchange, input.shares),
+        number: TradeNo(t.largest.0 + 1),
+    }
+}

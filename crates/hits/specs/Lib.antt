@@ -1,0 +1,4 @@
+pub mod Hits
+pub mod Due
+pub mod Gather
+pub mod Judge
