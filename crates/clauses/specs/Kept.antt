@@ -4,16 +4,16 @@ use mathlib.Core.Bool.{Bool, true, false, _&&_, _||_}
 use mathlib.Core.List.{List}
 use Prim.Native.Nat.{ℕ}
 use lib.Dec.{eqb, leb}
-use Rattle.laws.specs.Search.{sumZ, total, count}
+use lib.IntN.{ℤ}
+use Rattle.laws.specs.Search.{count, sumZ, total}
 use Rattle.record.specs.Codes.{completed}
 use Rattle.record.specs.Symbol.{sameSymbol}
 use Rattle.record.specs.declared.row.Row.{Row}
 use Rattle.record.specs.declared.symbol.Symbol.{Symbol}
 use Rattle.model.specs.Names.{aSummary, aTrade}
 use Rattle.model.specs.Rows.{found, there}
-use Rattle.model.specs.Sound.{equalZ, sharesOf, summaryRight, lotOf}
+use Rattle.model.specs.Sound.{equalZ, lotOf, sharesOf, summaryRight}
 use Rattle.groups.specs.Sums.{sharesPart}
-use lib.IntN.{ℤ}
 
 -- "a completed trade of its account and symbol"
 abbrev pub tradeAgrees : List Row → Row → Bool

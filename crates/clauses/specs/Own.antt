@@ -6,12 +6,12 @@ use mathlib.Core.List.{List, [], _∷_}
 use Prim.Native.Nat.{ℕ, zero, suc}
 use lib.ListN.{getD}
 use Rattle.record.specs.declared.row.Row.{Row}
+use Rattle.record.specs.Codes.{kindAccount, kindBand, kindCustomer, kindCustomerRate, kindLotHistory, kindSummary}
+use Rattle.record.specs.Codes.{kindTrade}
 use Rattle.model.specs.Rows.{there}
 use Rattle.model.specs.Sound.{bandApart, namesKnown, ratesFit, tradesDone}
-use Rattle.clauses.specs.Kept.{summaryKept}
-use Rattle.record.specs.Codes.{kindAccount, kindCustomerRate, kindBand, kindCustomer, kindLotHistory, kindSummary}
-use Rattle.record.specs.Codes.{kindTrade}
 use Rattle.model.specs.Names.{aBroker, aCustomer, aTaxRate, named}
+use Rattle.clauses.specs.Kept.{summaryKept}
 use Rattle.clauses.specs.Rules.{names-two}
 
 -- the rules of the other rows, and of a trade beside what hangs on it, by the kind's number

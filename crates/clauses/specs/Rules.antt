@@ -6,38 +6,38 @@ use Prim.Native.Nat.{ℕ, _+_, _%_, zero, suc, _/_, _<_, _*_}
 use native.Mathlib.Omega.{arith}
 use lib.Dec.{eqb, leb, ltb}
 use lib.IntN.{ℤ, pos, negsuc, _-ℤ_}
+use lib.ListN.{length, getD, drop}
+use lib.Seq.{getD-take, getD-drop}
 use mir.Syntax.{w64}
 use mir.Val.{toZ, ofZ, Fits, SFits}
+use mir.Facts.{toZ-ofZ, ofZ-toZ}
 use borrow.Author.Tests.{eq-eqb, eqb-true, eqb-false, leb-true, leb-false, ne-eqb, ltb-true, ltb-false}
-use Rattle.laws.specs.Search.{bit, count, every, sumZ, total, place}
+use Rattle.laws.specs.Search.{bit, count, every, place, sumZ, total}
 use Rattle.laws.specs.Tests.{and-assoc, and-true}
+use Rattle.laws.specs.Chunk.{part}
 use Rattle.record.specs.Codes.{completed, pending}
-use Rattle.record.specs.Signed.{up, dn, parts-add, leZ-is, eq-parts}
+use Rattle.record.specs.Signed.{dn, eq-parts, leZ-is, parts-add, up}
 use Rattle.record.specs.Symbol.{sameSymbol}
-use Rattle.rules.specs.declared.key.Key.{Key}
 use Rattle.record.specs.declared.row.Row.{Row}
 use Rattle.record.specs.declared.symbol.Symbol.{Symbol}
-use Rattle.model.specs.Flags.{cash}
-use Rattle.model.specs.Names.{anAccount, named, aSettlement}
-use Rattle.model.specs.Rows.{found, there, rows, hasKey}
-use Rattle.model.specs.Sound.{equalZ, lotOf, namesKnown, sharesOf, cashRight}
-use Rattle.groups.specs.Sums.{sharesPart, HoldsSide}
-use Rattle.clauses.specs.Kept.{comesTo}
-use lib.ListN.{length, getD, drop}
-use mir.Facts.{toZ-ofZ, ofZ-toZ}
-use Rattle.laws.specs.Chunk.{part}
 use Rattle.record.specs.Bytes.{Bytes}
 use Rattle.record.specs.Grid.{decode}
-use Rattle.kinds.specs.Kinds.{tradeOf, requestOf, settlementOf, cashOf}
+use Rattle.kinds.specs.Kinds.{cashOf, requestOf, settlementOf, tradeOf}
 use Rattle.kinds.specs.Units.{shares}
 use Rattle.kinds.specs.declared.rows.Trade.{Trade}
 use Rattle.kinds.specs.declared.rows.Request.{Request}
 use Rattle.kinds.specs.declared.rows.Settlement.{Settlement}
 use Rattle.kinds.specs.declared.rows.Cash.{Cash}
 use Rattle.kinds.specs.declared.units.Shares.{Shares}
+use Rattle.rules.specs.declared.key.Key.{Key}
+use Rattle.model.specs.Flags.{cash}
+use Rattle.model.specs.Names.{aSettlement, anAccount, named}
+use Rattle.model.specs.Rows.{found, hasKey, rows, there}
+use Rattle.model.specs.Sound.{cashRight, equalZ, lotOf, namesKnown, sharesOf}
 use Rattle.shelf.specs.Rows.{rowAt, rows-at, rows-past}
 use Rattle.directory.specs.Found.{key-row}
-use lib.Seq.{getD-take, getD-drop}
+use Rattle.groups.specs.Sums.{HoldsSide, sharesPart}
+use Rattle.clauses.specs.Kept.{comesTo}
 
 -- ---- S3
 module _ (rs : List Row) (r : Row) where

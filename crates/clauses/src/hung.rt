@@ -26,10 +26,11 @@ fn past(book: &[u8], i: usize) -> u8
     TradeHistory::from_bytes(part(book, i)).status
 }
 
-fn index(status: u8) -> usize
-    ensures { λ r. ⌜ r ≡ status ⌝ }
+// A status or a kind as the number of a place.
+pub fn index(code: u8) -> usize
+    ensures { λ r. ⌜ r ≡ code ⌝ }
 {
-    status as usize
+    code as usize
 }
 
 // The mark of the row at i, which is of this kind.

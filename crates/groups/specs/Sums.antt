@@ -8,18 +8,29 @@ use native.Mathlib.Omega.{arith}
 use lib.Dec.{eqb, leb}
 use lib.IntN.{ℤ, pos, negsuc, natAbs, _+ℤ_, negℤ}
 use lib.ListN.{length, getD}
+use lib.Signed.{ltZ}
 use mir.Syntax.{w64}
 use mir.Val.{toZ}
 use borrow.Author.Tests.{eqb-true, ltb-true}
-use Rattle.laws.specs.Search.{bit, total, count}
-use Rattle.laws.specs.Tests.{and-left, and-right, and-assoc}
+use Rattle.laws.specs.Search.{bit, count, total}
+use Rattle.laws.specs.Tests.{and-assoc, and-left, and-right}
+use Rattle.laws.specs.Place.{every-at}
 use Rattle.record.specs.Codes.{kindBand, kindCustomerRate, kindLot, kindRequest}
-use Rattle.rules.specs.Key.{keyOf}
-use Rattle.record.specs.Signed.{up, dn}
-use Rattle.rules.specs.declared.key.Key.{Key}
+use Rattle.record.specs.Signed.{dn, up}
 use Rattle.record.specs.Symbol.{noSymbol, same-symbol, sameSymbol}
 use Rattle.record.specs.declared.row.Row.{Row}
 use Rattle.record.specs.declared.symbol.Symbol.{Symbol}
+use Rattle.record.specs.Grid.{decode}
+use Rattle.kinds.specs.Kinds.{bandOf, customerRateOf, taxRateOf}
+use Rattle.kinds.specs.Kinds as kinds
+use Rattle.kinds.specs.Units.{shares}
+use Rattle.kinds.specs.declared.rows.Band.{Band}
+use Rattle.kinds.specs.declared.units.Shares.{Shares}
+use Rattle.kinds.specs.declared.rows.CustomerRate.{CustomerRate}
+use Rattle.kinds.specs.declared.rows.TaxRate.{TaxRate}
+use Rattle.kinds.specs.declared.rows.Lot.{Lot}
+use Rattle.rules.specs.Key.{keyOf}
+use Rattle.rules.specs.declared.key.Key.{Key}
 use Rattle.rules.specs.Meaning.{means-lot}
 use Rattle.rules.specs.Ranges.{sharesMost}
 use Rattle.rules.specs.Rules.{as-kind, fits}
@@ -28,22 +39,11 @@ use Rattle.model.specs.Names.{aTaxRate}
 use Rattle.model.specs.Rows.{found, is, mostRecords, nothing, rows}
 use Rattle.model.specs.Sound.{lotOf, overlaps, rateOf, s1}
 use Rattle.facts.specs.Rows.{length-rows}
+use Rattle.facts.specs.Names.{ofParty}
 use Rattle.shelf.specs.Rows.{rowAt}
 use Rattle.chains.specs.Group.{aGroup, groupOf, keyGroup, lotGroup, requestGroup}
-use Rattle.directory.specs.Listed.{Counted, Grouped, only-grouped, Listed, Tallied, tally-all, tally-more, places}
-use Rattle.facts.specs.Names.{ofParty}
-use Rattle.laws.specs.Place.{every-at}
-use lib.Signed.{ltZ}
-use Rattle.kinds.specs.Kinds.{bandOf, customerRateOf, taxRateOf}
-use Rattle.kinds.specs.Kinds as kinds
-use Rattle.kinds.specs.Units.{shares}
-use Rattle.kinds.specs.declared.rows.Band.{Band}
-use Rattle.kinds.specs.declared.units.Shares.{Shares}
 use Rattle.chains.specs.Chains.{half}
-use Rattle.record.specs.Grid.{decode}
-use Rattle.kinds.specs.declared.rows.CustomerRate.{CustomerRate}
-use Rattle.kinds.specs.declared.rows.TaxRate.{TaxRate}
-use Rattle.kinds.specs.declared.rows.Lot.{Lot}
+use Rattle.directory.specs.Listed.{Counted, Grouped, Listed, Tallied, only-grouped, places, tally-all, tally-more}
 
 -- ---- the groups that are walked
 abbrev pub bandGroup : ℕ → ℕ → ℕ → Key

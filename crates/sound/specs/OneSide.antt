@@ -15,19 +15,19 @@ use mir.Syntax.{w64}
 use mir.Val.{toZ}
 use borrow.Author.Tests.{eq-eqb, eqb-true, le-ltb, leb-true, leb-false, ltb-true, ne-eqb}
 use Rattle.laws.specs.Place.{every-at, some-place}
-use Rattle.laws.specs.Search.{count, every, means-every, place, total, sumZ}
-use Rattle.laws.specs.Tests.{_⇔_, Means, and-both, and-left, and-right, one-truth, or-else, or-left, or-right}
+use Rattle.laws.specs.Search.{count, every, means-every, place, sumZ, total}
+use Rattle.laws.specs.Tests.{Means, _⇔_, and-both, and-left, and-right, one-truth, or-else, or-left, or-right}
 use Rattle.laws.specs.Tests.{or-swap}
 use Rattle.laws.specs.Walk.{from-holds}
 use Rattle.record.specs.Codes.{kindLot, kindSummary}
-use Rattle.record.specs.Signed.{up, dn, toZ-high}
+use Rattle.record.specs.Signed.{dn, toZ-high, up}
 use Rattle.record.specs.Symbol.{same-symbol, sameSymbol, symbol-same}
 use Rattle.record.specs.declared.row.Row.{Row}
 use Rattle.rules.specs.Meaning.{means-lot}
 use Rattle.rules.specs.Rules.{as-kind, fits}
 use Rattle.model.specs.Names.{aSummary}
 use Rattle.model.specs.Rows.{hasKey, is, nothing, there}
-use Rattle.model.specs.Sound.{each, lotOf, lotRight, otherSign, s1, s8, short, summaryRight, equalZ, sharesOf}
+use Rattle.model.specs.Sound.{each, equalZ, lotOf, lotRight, otherSign, s1, s8, sharesOf, short, summaryRight}
 use Rattle.facts.specs.Names.{by-holder}
 use Rattle.groups.specs.Sums.{sharesPart}
 use Rattle.clauses.specs.Kept.{lotKept, oneSided, summaryKept, tradeAgrees}

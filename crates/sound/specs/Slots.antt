@@ -17,10 +17,12 @@ use Rattle.laws.specs.Tests.{and-both, and-left, and-right}
 use Rattle.laws.specs.Walk.{from-holds, from-most}
 use Rattle.record.specs.Codes.{completed, kindCash, kindLot, kindRequest, kindSettlement, kindTrade, kindTradeHistory}
 use Rattle.record.specs.Codes.{pending, tlb}
+use Rattle.record.specs.declared.row.Row.{Row}
+use Rattle.kinds.specs.Kinds.{tradeOf}
+use Rattle.kinds.specs.declared.rows.Trade.{Trade}
 use Rattle.rules.specs.Key.{among, keyOf}
 use Rattle.rules.specs.KeyLaws.{keys-tell, same-keys}
 use Rattle.rules.specs.declared.key.Key.{Key}
-use Rattle.record.specs.declared.row.Row.{Row}
 use Rattle.rules.specs.Meaning.{means-trade, means-trade-history}
 use Rattle.rules.specs.Rules.{as-kind, fits}
 use Rattle.model.specs.Flags.{cash}
@@ -28,16 +30,14 @@ use Rattle.model.specs.Names.{aCash, aHistory, aRequest, aSettlement, aTrade, b
 use Rattle.model.specs.Rows.{hasKey, is, mostRecords, nothing, rows, there}
 use Rattle.model.specs.Sound.{s1, s2}
 use Rattle.facts.specs.Rows.{length-rows}
-use Rattle.shelf.specs.Rows.{rowAt}
 use Rattle.facts.specs.Found.{own-number}
 use Rattle.facts.specs.Names.{by-id, by-status, history-twin, idKinds, of-five, ofId}
-use Rattle.sound.specs.Distinct.{last-none, unique-last}
+use Rattle.shelf.specs.Rows.{rowAt}
 use Rattle.clauses.specs.Hung.{hangs, hungKinds, noOffset, offset, offset-as, offsets}
+use Rattle.sound.specs.Distinct.{last-none, unique-last}
 use Rattle.sound.specs.Hung.{home, hung, slot}
 use Rattle.sound.specs.Once.{once, one-bit}
 use Rattle.sound.specs.Well.{few-kinds}
-use Rattle.kinds.specs.Kinds.{tradeOf}
-use Rattle.kinds.specs.declared.rows.Trade.{Trade}
 
 -- ---- what S1 says of a status
 history-status : (r : Row) → fits r ≡ true → r .kind ≡ kindTradeHistory → (1 ≤ r .status) × (r .status ≤ 3)

@@ -15,6 +15,8 @@ use Rattle.record.specs.Spelling.{means-symbol, symbolOk}
 use Rattle.record.specs.Symbol.{same-symbol, sameSymbol}
 use Rattle.record.specs.declared.row.Row.{Row}
 use Rattle.record.specs.declared.symbol.Symbol.{Symbol}
+use Rattle.kinds.specs.Kinds.{tradeOf}
+use Rattle.kinds.specs.declared.rows.Trade.{Trade}
 use Rattle.rules.specs.declared.key.Key.{Key}
 use Rattle.rules.specs.Meaning.{means-security, means-trade}
 use Rattle.rules.specs.Rules.{as-kind, fits}
@@ -24,8 +26,6 @@ use Rattle.facts.specs.Names.{by-id, by-symbol}
 use Rattle.facts.specs.Rows.{length-rows}
 use Rattle.shelf.specs.Rows.{rowAt}
 use Rattle.sound.specs.Kinds.{KindFits}
-use Rattle.kinds.specs.Kinds.{tradeOf}
-use Rattle.kinds.specs.declared.rows.Trade.{Trade}
 
 security-spelt : (r : Row) → fits r ≡ true → r .kind ≡ kindSecurity → symbolOk (r .symbol) ≡ true
 security-spelt r f e = means-symbol (r .symbol) .holds (means-security r .shows (as-kind kindSecurity r e ∙ f) .1)

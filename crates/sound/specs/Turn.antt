@@ -12,21 +12,21 @@ use Rattle.laws.specs.Marks.{marked-more, marked-none, marked-same, still-free}
 use Rattle.laws.specs.Search.{place}
 use Rattle.laws.specs.Tests.{and-both, and-left, and-right}
 use Rattle.record.specs.Codes.{kindFree}
-use Rattle.rules.specs.Key.{among, keyOf}
 use Rattle.record.specs.declared.row.Row.{Row}
+use Rattle.rules.specs.Key.{among, keyOf}
 use Rattle.rules.specs.Rules.{fits}
 use Rattle.model.specs.Names.{aTrade}
 use Rattle.model.specs.Rows.{found, hasKey, mostRecords, rows, there}
 use Rattle.model.specs.Sound.{sound}
 use Rattle.facts.specs.Rows.{length-rows}
-use Rattle.shelf.specs.Rows.{rowAt}
 use Rattle.facts.specs.Names.{of-five, other-kind}
+use Rattle.shelf.specs.Rows.{rowAt}
 use Rattle.directory.specs.Found.{key-row, key-there}
-use Rattle.sound.specs.ByRow.{rule-kept, rule-lost}
-use Rattle.sound.specs.Chains.{ByKind, Going, go-all, go-more, go-start, head-clear, kindHeads, link-clear}
-use Rattle.sound.specs.Chains.{kinds-less, sound-fits, sound-hangs, sound-last}
-use Rattle.sound.specs.Distinct.{last-none, none-last}
 use Rattle.clauses.specs.Hung.{fitsTrade, hangs, hungKinds, offset}
+use Rattle.sound.specs.ByRow.{rule-kept, rule-lost}
+use Rattle.sound.specs.Chains.{ByKind, Going, go-all, go-more, go-start, head-clear, kindHeads, kinds-less}
+use Rattle.sound.specs.Chains.{link-clear, sound-fits, sound-hangs, sound-last}
+use Rattle.sound.specs.Distinct.{last-none, none-last}
 use Rattle.sound.specs.Hung.{home, hungWell}
 use Rattle.sound.specs.Kinds.{KindWell, WellAt, hung-first}
 use Rattle.sound.specs.Says.{refuted}

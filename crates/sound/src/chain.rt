@@ -1,12 +1,13 @@
 // The places of a book chained by kind, so that its rows can be gone through kind by kind.
 ghost use mathlib.Core.Path.{_≡_};
-ghost use Prim.Native.Nat.{_+_, _/_, _≤_, _<_};
+ghost use Prim.Native.Nat.{_+_, _≤_, _<_};
 ghost use lib.ListN.{getD, length};
 ghost use Rattle.model.specs.Rows.{mostRecords, places, rows};
 ghost use Rattle.model.specs.Sound.{sound};
 ghost use Rattle.sound.specs.Chains.{ByKind, NoChains, kindHeads};
 ghost use Rattle.sound.specs.Says.{Says};
 use chains::chain::narrow;
+use clauses::hung::index;
 use record::codes::Kind;
 use record::row::Grid;
 use shelf::place::row_at;
@@ -16,12 +17,6 @@ pub struct Links {}
 
 impl Links {
     pub const HEADS: usize = 17;
-}
-
-pub fn index(kind: u8) -> usize
-    ensures { λ r. ⌜ r ≡ kind ⌝ }
-{
-    kind as usize
 }
 
 fn wide(x: u16) -> usize

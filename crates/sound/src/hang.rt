@@ -1,8 +1,8 @@
 // The rows that hang on a trade: request, trade history, lot, settlement and cash. Each is decided by its trade and
 // marked there; two rows of one key would have one mark. The marks then decide each trade.
 ghost use mathlib.Core.Path.{_≡_};
-ghost use mathlib.Core.Bool.{false, true};
-ghost use Prim.Native.Nat.{_+_, _*_, _/_, _<_};
+ghost use mathlib.Core.Bool.{true};
+ghost use Prim.Native.Nat.{_+_, _*_, _<_};
 ghost use Rattle.laws.specs.Search.{bit};
 ghost use Rattle.record.specs.Codes.{kindTrade};
 ghost use Rattle.rules.specs.Key.{among};
@@ -10,17 +10,17 @@ ghost use Rattle.model.specs.Rows.{places, rows};
 ghost use Rattle.model.specs.Sound.{s1, s2, sound};
 ghost use Rattle.shelf.specs.Rows.{rowAt};
 ghost use Rattle.directory.specs.Listed.{Listed};
+ghost use Rattle.clauses.specs.Hung.{hangs, hungKinds};
 ghost use Rattle.sound.specs.Chains.{ByKind};
 ghost use Rattle.sound.specs.Kinds.{KindFits, KindWell, TradesHung};
-ghost use Rattle.clauses.specs.Hung.{hangs, hungKinds, offset};
 ghost use Rattle.sound.specs.Hung.{hung};
 ghost use Rattle.sound.specs.Says.{Says};
 ghost use Rattle.sound.specs.Slots.{MarkedTo, allPast};
 ghost use Rattle.sound.specs.Turn.{Hanged};
 use crate::chain::first;
-use crate::chain::index;
 use crate::chain::next;
 use clauses::hung::fits_trade;
+use clauses::hung::index;
 use clauses::hung::offset;
 use directory::typed::trade;
 use fields::fits_beside;

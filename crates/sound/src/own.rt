@@ -2,7 +2,7 @@
 // the rows that hang on it.
 ghost use mathlib.Core.Path.{_≡_};
 ghost use mathlib.Core.Bool.{_&&_, false, true};
-ghost use Prim.Native.Nat.{_/_, _<_, _≤_};
+ghost use Prim.Native.Nat.{_<_, _≤_};
 ghost use Rattle.record.specs.Codes.{kindSecurity, kindSummary, kindTrade};
 ghost use Rattle.rules.specs.Rules.{fits};
 ghost use Rattle.rules.specs.Key.{among};
@@ -10,11 +10,11 @@ ghost use Rattle.model.specs.Rows.{places, rows};
 ghost use Rattle.model.specs.Sound.{s1, sound};
 ghost use Rattle.shelf.specs.Rows.{rowAt};
 ghost use Rattle.directory.specs.Listed.{Listed};
+ghost use Rattle.clauses.specs.Hung.{hangs, hungKinds};
+ghost use Rattle.clauses.specs.Own.{ownWell};
 ghost use Rattle.sound.specs.Chains.{ByKind};
 ghost use Rattle.sound.specs.Kinds.{KindFits, KindWell, WellTo};
 ghost use Rattle.sound.specs.Distinct.{lastAt};
-ghost use Rattle.clauses.specs.Hung.{hangs, hungKinds};
-ghost use Rattle.clauses.specs.Own.{ownWell};
 ghost use Rattle.sound.specs.Says.{Says};
 use crate::chain::first;
 use crate::chain::next;

@@ -1,6 +1,6 @@
 // The whole of a book, kind by kind; and its status.
 ghost use mathlib.Core.Path.{_≡_};
-ghost use Prim.Native.Nat.{_*_, _/_, _≤_};
+ghost use Prim.Native.Nat.{_*_, _≤_};
 ghost use Rattle.record.specs.Codes.{kindSummary};
 ghost use Rattle.model.specs.Rows.{mostRecords, places, rows, wholeRecords};
 ghost use Rattle.model.specs.Sound.{sound};

@@ -1,6 +1,6 @@
 -- The offset of each kind. Assumes nothing.
-use Prim.Native.Nat.{ℕ}
 use mathlib.Core.Path.{sym, ap, _∙_}
+use Prim.Native.Nat.{ℕ}
 use Rattle.record.specs.Codes.{kindCash, kindLot, kindRequest, kindSettlement, kindTradeHistory}
 use Rattle.rules.specs.Key.{among}
 use Rattle.clauses.specs.Hung.{hungKinds, offset-as, request-kind}

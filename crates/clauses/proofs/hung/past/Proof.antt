@@ -1,8 +1,8 @@
 -- The status of the history that the record is. Assumes nothing.
 use mathlib.Core.Path.{ap, _∙_}
+use Rattle.record.specs.declared.row.Row.{Row}
 use Rattle.kinds.specs.Kinds.{tradeHistoryOf}
 use Rattle.kinds.specs.declared.rows.TradeHistory.{TradeHistory}
-use Rattle.record.specs.declared.row.Row.{Row}
 use borrow.Author.Needs.{needs}
 use Rattle.clauses.proofs.hung.past.Statement.{statement}
 use Rattle.clauses.proofs.hung.past.Tie as tie

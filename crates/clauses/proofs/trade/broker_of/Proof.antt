@@ -1,8 +1,8 @@
 -- By the account that is found. Assumes nothing.
 use mathlib.Core.Path.{ap, _∙_}
+use Rattle.record.specs.declared.row.Row.{Row}
 use Rattle.kinds.specs.Kinds.{accountOf}
 use Rattle.kinds.specs.declared.rows.Account.{Account}
-use Rattle.record.specs.declared.row.Row.{Row}
 use Rattle.directory.specs.Found.{key-row}
 use borrow.Author.Needs.{needs}
 use Rattle.clauses.proofs.trade.broker_of.Statement.{statement}

@@ -1,8 +1,8 @@
 -- The invariant, for the count and both sums: what is gathered and what is left make the whole; a link skips only rows
 -- of other buckets, which add nothing. The measure is the number of places left. Assumes nothing.
-use Prim.Native.Nat.{_-_}
 use mathlib.Core.Path.{refl}
 use mathlib.Core.Bool.{false, true}
+use Prim.Native.Nat.{_-_}
 use native.Mathlib.Omega.{arith}
 use Rattle.laws.specs.Search.{bit, count}
 use Rattle.rules.specs.Ranges.{sharesMost}

@@ -39,9 +39,7 @@ pub overlapping-spec : {M : Type 1} → statement M
 unfolding count
 overlapping-spec =
     tie.close
-    (tie.spec Inv-loop μ-loop (λ c κs. search (needs, walks, bands-counted, same-bit))
-    (λ c κs. search (needs, walks, bands-counted, same-bit)) (λ c κs. search (needs, walks, bands-counted, same-bit))
-    (λ c κs. search (needs, walks, bands-counted, same-bit)) (λ c. search (needs, walks, bands-counted, same-bit))
-    (λ c κs. search (needs, walks, bands-counted, same-bit)) (λ c κs. search (needs, walks, bands-counted, same-bit))
-    (λ c. search (needs, walks, bands-counted, same-bit)) (λ c κs. search (needs, walks, bands-counted, same-bit))
-    (λ c. search (needs, walks, bands-counted, same-bit)) loop-again returns)
+    (tie.spec Inv-loop μ-loop (λ c κs. search needs) (λ c κs. search needs) (λ c κs. search needs)
+    (λ c κs. search (needs, walks)) (λ c. search (needs, walks, bands-counted)) (λ c κs. search (needs, walks))
+    (λ c κs. search needs) (λ c. search (needs, walks)) (λ c κs. search (needs, walks)) (λ c. search (needs, walks))
+    loop-again returns)
