@@ -4,6 +4,7 @@ ghost use lib.ListN.{length};
 use crate::text::find;
 use crate::text::number;
 use check::same;
+use record::row::put;
 
 struct Place(usize, usize);
 
@@ -55,18 +56,6 @@ fn place_of(name: &[u8]) -> Place
     }
     io::write_all(1, b"no field of this name: ");
     Place(0, 0)
-}
-
-fn put(bytes: &mut [u8; 64], at: usize, width: usize, x: u64)
-    requires { ⌜ at + width ≤ 64 ⌝ }
-{
-    let mut y = x;
-    let mut i = 0;
-    while i < width {
-        bytes[at + i] = (y % 256) as u8;
-        y = y / 256;
-        i += 1;
-    }
 }
 
 // A byte of a symbol; a zero is written as a low line.

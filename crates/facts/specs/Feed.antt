@@ -92,6 +92,11 @@ pends-traded e y rs i =
     (found-kept (aTrade i) (put sameRow s (traded e s) rs) rs (traded-found e y rs i))
 
 -- ---- one trade is submitted
+-- what is found by one key has no other where nothing has it
+other-found : (k j : Key) (rs : List Row) → hasKey j nothing ≡ false
+    → (hasKey k (found k rs) ≡ true → hasKey j (found k rs) ≡ false) → hasKey j (found k rs) ≡ false
+other-found k j rs z f = ⊎-elim f (λ h. ap (hasKey j) h ∙ z) (found-either k rs)
+
 module _ (e : Row) (rs : List Row) (r : Row) where
   abbrev tradeWas : Row
   tradeWas = found (aTrade (r .id)) rs
@@ -104,15 +109,13 @@ module _ (e : Row) (rs : List Row) (r : Row) where
 
   other-trade : (i : ℕ) → eqb (r .id) i ≡ false → hasKey (aTrade i) tradeWas ≡ false
   other-trade i n =
-      ⊎-elim
+      other-found (aTrade (r .id)) (aTrade i) rs (trade-key i nothing)
       (λ h.
       let q : tradeWas .id ≡ r .id =
       eqb-true (tradeWas .id) (r .id)
       (and-right (is kindTrade tradeWas) (eqb (tradeWas .id) (r .id)) (sym (trade-key (r .id) tradeWas) ∙ h))
       in
       trade-key i tradeWas ∙ rw (q, n) (and-false (is kindTrade tradeWas)))
-      (λ h. ap (hasKey (aTrade i)) h ∙ trade-key i nothing)
-      (found-either (aTrade (r .id)) rs)
 
   -- which leaves it pending no longer, and every other as it is
   gone : pends (submit e rs r) (r .id) ≡ false
@@ -179,15 +182,14 @@ module _ (f : Fed) (e : Row) where
 
   other-security : (s : Symbol) → sameSymbol (e .symbol) s ≡ false → hasKey (aSecurity s) securityWas ≡ false
   other-security s n =
-      ⊎-elim
+      other-found (aSecurity (e .symbol)) (aSecurity s) (f .rows) (by-symbol s nothing)
       (λ h.
       let q : securityWas .symbol ≡ e .symbol =
       same-symbol (securityWas .symbol) (e .symbol)
-      (and-right (is kindSecurity securityWas) (sameSymbol (securityWas .symbol) (e .symbol)) (sym (by-symbol (e .symbol) securityWas) ∙ h))
+      (and-right (is kindSecurity securityWas) (sameSymbol (securityWas .symbol) (e .symbol))
+      (sym (by-symbol (e .symbol) securityWas) ∙ h))
       in
       by-symbol s securityWas ∙ rw (q, n) (and-false (is kindSecurity securityWas)))
-      (λ h. ap (hasKey (aSecurity s)) h ∙ by-symbol s nothing)
-      (found-either (aSecurity (e .symbol)) (f .rows))
 
   pub volume-next : (s : Symbol) → there (aSecurity s) (f .rows) ≡ true
       → found (aSecurity s) (applied f e .rows) .m1

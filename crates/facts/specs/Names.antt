@@ -6,7 +6,7 @@ use mathlib.Core.Logic.{⊎-elim}
 use Prim.Native.Nat.{ℕ}
 use lib.Dec.{eqb}
 use borrow.Author.Tests.{eq-eqb, eqb-true}
-use Rattle.laws.specs.Tests.{and-assoc, or-cases}
+use Rattle.laws.specs.Tests.{and-assoc, and-true, or-cases}
 use Rattle.record.specs.Codes.{kindAccount, kindBroker, kindCash, kindCustomer, kindLot, kindRequest, kindSecurity}
 use Rattle.record.specs.Codes.{kindSettlement, kindSummary, kindTaxRate, kindTrade, kindTradeHistory}
 use Rattle.rules.specs.Key.{among, keyOf, sameKey}
@@ -62,19 +62,6 @@ of-kind r k x h = go (eqb (r .kind) (k .kind)) refl
     go true e = h (eqb-true (r .kind) (k .kind) e) ∙ rw e
     go false e = rw e
 
--- tests that hold by themselves fall away
-last-two : (a : Bool) → (a && true && true) ≡ a
-last-two true = refl
-last-two false = refl
-
-last-three : (a : Bool) → (a && true && true && true) ≡ a
-last-three true = refl
-last-three false = refl
-
-last-four : (a : Bool) → (a && true && true && true && true) ≡ a
-last-four true = refl
-last-four false = refl
-
 abbrev ById : ℕ → Type 0
 ById k = (i : ℕ) (r : Row) → hasKey (byId k i) r ≡ ofId k i r
 
@@ -82,11 +69,11 @@ pub by-id : (k : ℕ) → among k idKinds ≡ true → ById k
 unfolding sameKey keyOf sameSymbol
 by-id k e =
     of-five ById k kindTrade kindRequest kindSettlement kindCash kindLot
-    (λ i r. of-kind r (byId kindTrade i) (eqb (r .id) i) (λ h. rw h (last-three (eqb (r .id) i))))
-    (λ i r. of-kind r (byId kindRequest i) (eqb (r .id) i) (λ h. rw h (last-three (eqb (r .id) i))))
-    (λ i r. of-kind r (byId kindSettlement i) (eqb (r .id) i) (λ h. rw h (last-three (eqb (r .id) i))))
-    (λ i r. of-kind r (byId kindCash i) (eqb (r .id) i) (λ h. rw h (last-three (eqb (r .id) i))))
-    (λ i r. of-kind r (byId kindLot i) (eqb (r .id) i) (λ h. rw h (last-three (eqb (r .id) i))))
+    (λ i r. of-kind r (byId kindTrade i) (eqb (r .id) i) (λ h. rw h (simp and-true)))
+    (λ i r. of-kind r (byId kindRequest i) (eqb (r .id) i) (λ h. rw h (simp and-true)))
+    (λ i r. of-kind r (byId kindSettlement i) (eqb (r .id) i) (λ h. rw h (simp and-true)))
+    (λ i r. of-kind r (byId kindCash i) (eqb (r .id) i) (λ h. rw h (simp and-true)))
+    (λ i r. of-kind r (byId kindLot i) (eqb (r .id) i) (λ h. rw h (simp and-true)))
     e
 
 abbrev ByParty : ℕ → Type 0
@@ -96,28 +83,23 @@ pub by-party : (k : ℕ) → among k partyKinds ≡ true → ByParty k
 unfolding sameKey keyOf sameSymbol
 by-party k e =
     of-four ByParty k kindBroker kindCustomer kindTaxRate kindAccount
-    (λ p r. of-kind r (byParty kindBroker p) (eqb (r .party) p) (λ h. rw h (last-four (eqb (r .party) p))))
-    (λ p r. of-kind r (byParty kindCustomer p) (eqb (r .party) p) (λ h. rw h (last-four (eqb (r .party) p))))
-    (λ p r. of-kind r (byParty kindTaxRate p) (eqb (r .party) p) (λ h. rw h (last-four (eqb (r .party) p))))
-    (λ p r. of-kind r (byParty kindAccount p) (eqb (r .party) p) (λ h. rw h (last-four (eqb (r .party) p))))
+    (λ p r. of-kind r (byParty kindBroker p) (eqb (r .party) p) (λ h. rw h (simp and-true)))
+    (λ p r. of-kind r (byParty kindCustomer p) (eqb (r .party) p) (λ h. rw h (simp and-true)))
+    (λ p r. of-kind r (byParty kindTaxRate p) (eqb (r .party) p) (λ h. rw h (simp and-true)))
+    (λ p r. of-kind r (byParty kindAccount p) (eqb (r .party) p) (λ h. rw h (simp and-true)))
     e
 
 pub by-symbol : (s : Symbol) (r : Row) → hasKey (aSecurity s) r ≡ ofSymbol kindSecurity s r
 unfolding sameKey keyOf sameSymbol
-by-symbol s r = of-kind r (aSecurity s) (sameSymbol (r .symbol) s) (λ h. rw h (last-two (sameSymbol (r .symbol) s)))
+by-symbol s r = of-kind r (aSecurity s) (sameSymbol (r .symbol) s) (λ h. rw h (simp and-true))
 
 pub by-holder : (a : ℕ) (s : Symbol) (r : Row)
     → hasKey (aSummary a s) r ≡ (ofParty kindSummary a r && sameSymbol (r .symbol) s)
 unfolding sameKey keyOf sameSymbol
 by-holder a s r =
     of-kind r (aSummary a s) (eqb (r .party) a && sameSymbol (r .symbol) s)
-    (λ h. rw h (both (eqb (r .party) a) (sameSymbol (r .symbol) s)))
+    (λ h. rw h (simp and-true))
     ∙ and-assoc (is kindSummary r) (eqb (r .party) a) (sameSymbol (r .symbol) s)
-  where
-    both : (a b : Bool) → (a && true && b && true && true) ≡ (a && b)
-    both true true = refl
-    both true false = refl
-    both false b = refl
 
 pub by-status : (i s : ℕ) (r : Row) → hasKey (aHistory i s) r ≡ (ofId kindTradeHistory i r && eqb (r .status) s)
 unfolding sameKey keyOf sameSymbol

@@ -131,6 +131,25 @@ module _ (t summary : Row) (cs : List Closing) (n : Sums) where
       other : (h : Row) → eqb (h .kind) k ≡ false → P h
       other h q = other-kind o h (ap (eqb (h .kind)) e ∙ q)
 
+-- what holds of each row that is changed and of each that goes holds of all that are written
+pub all-writes : (P : Row × Row → Type 0) (t summary account broker : Row) (cs : List Closing) (n : Sums)
+    → All P (lotChanges t cs) → All P (summaryChanges t summary) → All P (accountChanges t account (n .balance))
+    → P (tradeWrite t n) → P (brokerWrite broker n) → All P (frees (closedLots cs)) → All P (frees (summaryGone t summary))
+    → All P (writes t summary account broker cs n)
+all-writes P t summary account broker cs n lots sums accounts trade its-broker go gone =
+    let w1 = lotChanges t cs in
+    let w2 = summaryChanges t summary in
+    let w3 = accountChanges t account (n .balance) in
+    let w4 = tradeWrite t n ∷ [] in
+    let w5 = brokerWrite broker n ∷ [] in
+    all-append P (w1 ++ w2 ++ w3 ++ w4 ++ w5) (frees (closedLots cs ++ summaryGone t summary))
+    (all-append P (w1 ++ w2 ++ w3 ++ w4) w5
+    (all-append P (w1 ++ w2 ++ w3) w4 (all-append P (w1 ++ w2) w3 (all-append P w1 w2 lots sums) accounts)
+    (all-one P _ trade))
+    (all-one P _ its-broker))
+    (subst (All P) (sym (map-append (λ (o : Row). (o, nothing)) (closedLots cs) (summaryGone t summary)))
+    (all-append P (frees (closedLots cs)) (frees (summaryGone t summary)) go gone))
+
 module _ {rs : List Row} {t summary account broker : Row} {cs : List Closing}
     (r : Read rs t summary account broker cs) (n : Sums) where
   -- a lot's trade is completed, so that no lot has the number of this trade
@@ -247,21 +266,8 @@ module _ {rs : List Row} {t summary account broker : Row} {cs : List Closing}
 
   pub all-own : All Own (writes t summary account broker cs n)
   all-own =
-      let w1 = lotChanges t cs in
-      let w2 = summaryChanges t summary in
-      let w3 = accountChanges t account (n .balance) in
-      let w4 = tradeWrite t n ∷ [] in
-      let w5 = brokerWrite broker n ∷ [] in
-      all-append Own (w1 ++ w2 ++ w3 ++ w4 ++ w5) (frees (closedLots cs ++ summaryGone t summary))
-      (all-append Own (w1 ++ w2 ++ w3 ++ w4) w5
-      (all-append Own (w1 ++ w2 ++ w3) w4
-      (all-append Own (w1 ++ w2) w3
-      (all-append Own w1 w2 lots-change summary-changes)
-      account-changes)
-      (all-one Own _ trade-changes))
-      (all-one Own _ broker-changes))
-      (subst (All Own) (sym (map-append (λ (o : Row). (o, nothing)) (closedLots cs) (summaryGone t summary)))
-      (all-append Own (frees (closedLots cs)) (frees (summaryGone t summary)) lots-go summary-goes))
+      all-writes Own t summary account broker cs n lots-change summary-changes account-changes trade-changes
+      broker-changes lots-go summary-goes
 
 -- ---- the kinds of rows that are changed or freed are five, and a key has one of them
 abbrev kinds : ℕ → ℕ

@@ -49,10 +49,8 @@ fields a b =
 pub same-rows : (a b : Row) → sameRow a b ≡ true → a ≡ b
 unfolding sameRow sameSymbol
 same-rows a b e =
-    let s = eqb (a .kind) (b .kind) in
-    let at = digits-equal s (fields a b) e in
-    row-eq
-    (eqb-true (a .kind) (b .kind) (head-equal s (fields a b) e)) (at 0) (at 1) (at 2) (at 3) (at 4)
+    let at = digits-equal (eqb (a .kind) (b .kind)) (fields a b) e in
+    row-eq (eqb-true (a .kind) (b .kind) (head-equal _ (fields a b) e)) (at 0) (at 1) (at 2) (at 3) (at 4)
     (symbol-eq {a = a .symbol} {b = b .symbol} (at 5)) (at 6) (at 7) (at 8) (at 9) (at 10) (at 11) (at 12) (at 13)
 
 pub row-itself : (a : Row) → sameRow a a ≡ true

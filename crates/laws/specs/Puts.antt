@@ -172,21 +172,21 @@ module _ {A : Type 0} (same : A → A → Bool) (tells : (a b : A) → same a b 
       ∙ the-other same tells p (w .0) (w .1) (here .0) (here .1) d l
 
   module _ (itself : (a : A) → same a a ≡ true) (ws : List (A × A)) (l : List A) (inside : Inside same ws l) where
-    pub no-more : (p : A → Bool) → All (Fewer p) ws → count p (puts same ws l) ≤ count p l
-    no-more p h =
+    counted : (p : A → Bool)
+        → count p (puts same ws l) + count (λ (w : A × A). p (w .0)) ws ≡ count p l + count (λ (w : A × A). p (w .1)) ws
+    counted p =
         let law = puts-count same tells itself p ws l inside in
         let a = count-map p (λ (w : A × A). w .0) ws in
         let b = count-map p (λ (w : A × A). w .1) ws in
-        let c = count-less (λ (w : A × A). p (w .1)) (λ (w : A × A). p (w .0)) ws h in
         omega arith
+
+    pub no-more : (p : A → Bool) → All (Fewer p) ws → count p (puts same ws l) ≤ count p l
+    no-more p h =
+        omega (arith, counted p, count-less (λ (w : A × A). p (w .1)) (λ (w : A × A). p (w .0)) ws h)
 
     pub no-fewer : (p : A → Bool) → All (More p) ws → count p l ≤ count p (puts same ws l)
     no-fewer p h =
-        let law = puts-count same tells itself p ws l inside in
-        let a = count-map p (λ (w : A × A). w .0) ws in
-        let b = count-map p (λ (w : A × A). w .1) ws in
-        let c = count-less (λ (w : A × A). p (w .0)) (λ (w : A × A). p (w .1)) ws h in
-        omega arith
+        omega (arith, counted p, count-less (λ (w : A × A). p (w .0)) (λ (w : A × A). p (w .1)) ws h)
 
     -- what holds of each that was there and of each that comes
     pub each-row : (P : A → Type 0) → All P l → All (λ (w : A × A). P (w .1)) ws → All P (puts same ws l)

@@ -74,7 +74,7 @@ pub fn places(book: &[u8]) -> usize
 }
 
 // The number x in `width` bytes at a place.
-fn put(bytes: &mut [u8; Grid::SIZE], at: usize, width: usize, x: u64)
+pub fn put(bytes: &mut [u8; Grid::SIZE], at: usize, width: usize, x: u64)
     requires { ⌜ at + width ≤ 64 ⌝ }
     ensures { λ _. ⌜ now (bytes .exit) ≡ stored (now (bytes .entry)) at width x ⌝ }
 {

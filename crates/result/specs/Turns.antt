@@ -23,7 +23,7 @@ use Rattle.model.specs.Result.{reduced, summaryChanges, summaryGone, summedShar
 use Rattle.model.specs.Rows.{hasKey, is, nothing, rows}
 use Rattle.facts.specs.Keys.{own-key}
 use Rattle.facts.specs.Posted.{frees}
-use Rattle.facts.specs.Result.{Read, all-own, writes, writes-once}
+use Rattle.facts.specs.Result.{Read, all-own, all-writes, writes, writes-once}
 use Rattle.facts.specs.Sound.{once}
 use Rattle.chains.specs.Group.{account-stays, broker-stays, groupOf, lot-stays, summary-stays, trade-stays}
 use Rattle.directory.specs.Directory.{Directory}
@@ -111,21 +111,8 @@ module _ {rs : List Row} {t summary account broker : Row} {cs : List Closing}
 
   all-move : All Moves (writes t summary account broker cs n)
   all-move =
-      let w1 = lotChanges t cs in
-      let w2 = summaryChanges t summary in
-      let w3 = accountChanges t account (n .balance) in
-      let w4 = tradeWrite t n ∷ [] in
-      let w5 = brokerWrite broker n ∷ [] in
-      all-append Moves (w1 ++ w2 ++ w3 ++ w4 ++ w5) (frees (closedLots cs ++ summaryGone t summary))
-      (all-append Moves (w1 ++ w2 ++ w3 ++ w4) w5
-      (all-append Moves (w1 ++ w2 ++ w3) w4
-      (all-append Moves (w1 ++ w2) w3
-      (all-append Moves w1 w2 lots-move summary-moves)
-      account-moves)
-      (all-one Moves _ trade-moves))
-      (all-one Moves _ broker-moves))
-      (subst (All Moves) (sym (map-append (λ (o : Row). (o, nothing)) (closedLots cs) (summaryGone t summary)))
-      (all-append Moves (frees (closedLots cs)) (frees (summaryGone t summary)) lots-go summary-goes))
+      all-writes Moves t summary account broker cs n lots-move summary-moves account-moves trade-moves broker-moves
+      lots-go summary-goes
 
   abbrev ws : List (Row × Row)
   ws = writes t summary account broker cs n

@@ -106,10 +106,8 @@ key-eq e0 e1 e2 e3 e4 e5 e6 e7 e8 = λ i. record {
 pub same-keys : (a b : Key) → sameKey a b ≡ true → a ≡ b
 unfolding sameKey sameSymbol
 same-keys a b e =
-    let s = eqb (a .kind) (b .kind) in
-    let at = digits-equal s (digits a b) e in
-    key-eq
-    (eqb-true (a .kind) (b .kind) (head-equal s (digits a b) e)) (at 0) (at 1) (at 2) (at 3) (at 4)
+    let at = digits-equal (eqb (a .kind) (b .kind)) (digits a b) e in
+    key-eq (eqb-true (a .kind) (b .kind) (head-equal _ (digits a b) e)) (at 0) (at 1) (at 2) (at 3) (at 4)
     (symbol-eq {a = a .symbol} {b = b .symbol} (at 5)) (at 6) (at 7)
 
 pub key-itself : (a : Key) → sameKey a a ≡ true

@@ -89,24 +89,10 @@ right : sound (rows book) ≡ true
 unfolding resultOpened
 right = refl
 
-account-0 : accountOf list area book 0 ≡ 1
+accounts : (accountOf list area book 0 ≡ 1) × (accountOf list area book 1 ≡ 2) × (accountOf list area book 2 ≡ 1)
+    × (accountOf list area book 3 ≡ 0) × (accountOf list area book 4 ≡ 0)
 unfolding resultOpened
-account-0 = refl
-
-account-1 : accountOf list area book 1 ≡ 2
-unfolding resultOpened
-account-1 = refl
-
-account-2 : accountOf list area book 2 ≡ 1
-unfolding resultOpened
-account-2 = refl
-
-account-3 : accountOf list area book 3 ≡ 0
-unfolding resultOpened
-account-3 = refl
-
-account-4 : accountOf list area book 4 ≡ 0
-account-4 = refl
+accounts = (refl, refl, refl, refl, refl)
 
 -- neither -104 nor -105
 abbrev pub fine : Status → Bool
@@ -193,12 +179,12 @@ own-order : (a : ℕ) → (a ≡ 0 → ⊥) → ownPlaces list area book a one �
 own-order a z =
     let is : ℕ → Bool = λ n. eqb n a in
     two-places (λ (i : ℕ). eqb (accountOf list area book i) a)
-    (ap is (account-0 ∙ sym account-2))
+    (ap is (accounts .0 ∙ sym (accounts .2)))
     (λ h.
-    let e = eqb-true 1 a (sym (ap is account-0) ∙ h) in
-    ap is account-1 ∙ ne-eqb 2 a (λ q. absurd (omega arith)))
-    (ap is account-3 ∙ ne-eqb 0 a (λ q. z (sym q)))
-    (ap is account-4 ∙ ne-eqb 0 a (λ q. z (sym q)))
+    let e = eqb-true 1 a (sym (ap is (accounts .0)) ∙ h) in
+    ap is (accounts .1) ∙ ne-eqb 2 a (λ q. absurd (omega arith)))
+    (ap is (accounts .3) ∙ ne-eqb 0 a (λ q. z (sym q)))
+    (ap is (accounts .4) ∙ ne-eqb 0 a (λ q. z (sym q)))
 
 pub two-runs : TwoRuns book list area area one other
 two-runs = record {

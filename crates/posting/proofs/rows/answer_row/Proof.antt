@@ -4,9 +4,20 @@ use borrow.Author.Needs.{needs}
 use Rattle.posting.proofs.rows.answer_row.Statement.{statement}
 use Rattle.posting.proofs.rows.answer_row.Tie as tie
 
-pub answer-row-spec : {M : Type 1} → statement M
+returns : tie.Need-returns
 unfolding tradeRow
+returns c =
+    let tax = c .before .before in
+    rw (
+      tax .before .before .nothing .ensures,
+      tax .holding .ensures,
+      tax .before .plain .ensures .0,
+      c .before .bits .ensures,
+      c .bits2 .ensures,
+    )
+
+pub answer-row-spec : {M : Type 1} → statement M
 answer-row-spec =
     tie.close
     (tie.spec (λ c κs. search needs) (λ c κs. search needs) (λ c κs. search needs) (λ c κs. search needs)
-    (λ c κs. search needs) (λ c. cc))
+    (λ c κs. search needs) returns)

@@ -4,14 +4,9 @@ use borrow.Author.Needs.{needs}
 use Rattle.rules.proofs.key.Key.of.Statement.{statement}
 use Rattle.rules.proofs.key.Key.of.Tie as tie
 
-returns : tie.Need-returns
-returns c =
-    let start = c .before .before .before .before .before .before .before .before .before in
-    cc (marks-tell (start .before .args .row))
-
 pub of-spec : {M : Type 1} → statement M
 of-spec =
     tie.close
     (tie.spec (λ c κs. search needs) (λ c κs. search needs) (λ c κs. search needs) (λ c κs. search needs)
     (λ c κs. search needs) (λ c κs. search needs) (λ c κs. search needs) (λ c κs. search needs) (λ c κs. search needs)
-    returns)
+    (λ c. cc (marks-tell (c .before .before .before .before .before .before .before .before .before .before .args .row))))
