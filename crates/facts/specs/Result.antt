@@ -132,23 +132,59 @@ module _ (t summary : Row) (cs : List Closing) (n : Sums) where
       other h q = other-kind o h (ap (eqb (h .kind)) e ∙ q)
 
 -- what holds of each row that is changed and of each that goes holds of all that are written
-pub all-writes : (P : Row × Row → Type 0) (t summary account broker : Row) (cs : List Closing) (n : Sums)
-    → All P (lotChanges t cs) → All P (summaryChanges t summary) → All P (accountChanges t account (n .balance))
-    → P (tradeWrite t n) → P (brokerWrite broker n) → All P (frees (closedLots cs)) → All P (frees (summaryGone t summary))
-    → All P (writes t summary account broker cs n)
-all-writes P t summary account broker cs n lots sums accounts trade its-broker go gone =
-    let w1 = lotChanges t cs in
-    let w2 = summaryChanges t summary in
-    let w3 = accountChanges t account (n .balance) in
-    let w4 = tradeWrite t n ∷ [] in
-    let w5 = brokerWrite broker n ∷ [] in
-    all-append P (w1 ++ w2 ++ w3 ++ w4 ++ w5) (frees (closedLots cs ++ summaryGone t summary))
-    (all-append P (w1 ++ w2 ++ w3 ++ w4) w5
-    (all-append P (w1 ++ w2 ++ w3) w4 (all-append P (w1 ++ w2) w3 (all-append P w1 w2 lots sums) accounts)
-    (all-one P _ trade))
-    (all-one P _ its-broker))
-    (subst (All P) (sym (map-append (λ (o : Row). (o, nothing)) (closedLots cs) (summaryGone t summary)))
-    (all-append P (frees (closedLots cs)) (frees (summaryGone t summary)) go gone))
+module _ (P : Row × Row → Type 0) (t summary account broker : Row) (cs : List Closing) (n : Sums)
+    (lots : (c : Closing) → List·Memᴰ c cs → P (c .lot, holding (c .lot) (leftOf (t .form) c)))
+    (lots-go : (c : Closing) → List·Memᴰ c cs → P (c .lot, nothing))
+    (sums : is kindFree summary ≡ false → P (summary, holding summary (summedShares t summary)))
+    (sums-go : is kindFree summary ≡ false → P (summary, nothing)) (holds : P (account, holding account (n .balance)))
+    (trades : P (tradeWrite t n)) (brokers : P (brokerWrite broker n)) where
+  live : (a b : Bool) → (not a && b) ≡ true → a ≡ false
+  live true b e = absurd (false≢true e)
+  live false b e = refl
+
+  lots-change : All P (lotChanges t cs)
+  lots-change =
+      all-map (λ (c : Closing). (c .lot, holding (c .lot) (leftOf (t .form) c))) P (keep reduced cs)
+      (all-keep (λ (c : Closing). P (c .lot, holding (c .lot) (leftOf (t .form) c))) reduced cs lots)
+
+  lots-freed : All P (frees (closedLots cs))
+  lots-freed =
+      all-map (λ (o : Row). (o, nothing)) P (closedLots cs)
+      (all-map (λ (c : Closing). c .lot) (λ (o : Row). P (o, nothing)) (keep (λ (c : Closing). not (reduced c)) cs)
+      (all-keep (λ (c : Closing). P (c .lot, nothing)) (λ (c : Closing). not (reduced c)) cs lots-go))
+
+  summary-changes : All P (summaryChanges t summary)
+  summary-changes =
+      let z = summedShares t summary in
+      all-cond P (not (is kindFree summary) && not (gone z)) _ []
+      (λ e. all-one P _ (sums (live (is kindFree summary) (not (gone z)) e))) (λ e. all-none P)
+
+  summary-freed : All P (frees (summaryGone t summary))
+  summary-freed =
+      let z = summedShares t summary in
+      all-map (λ (o : Row). (o, nothing)) P (summaryGone t summary)
+      (all-cond (λ (o : Row). P (o, nothing)) (not (is kindFree summary) && gone z) _ []
+      (λ e. all-one (λ (o : Row). P (o, nothing)) summary (sums-go (live (is kindFree summary) (gone z) e)))
+      (λ e. all-none (λ (o : Row). P (o, nothing))))
+
+  account-changes : All P (accountChanges t account (n .balance))
+  account-changes = all-cond P (cash (t .flags)) _ [] (λ e. all-one P _ holds) (λ e. all-none P)
+
+  pub all-writes : All P (writes t summary account broker cs n)
+  all-writes =
+      let w1 = lotChanges t cs in
+      let w2 = summaryChanges t summary in
+      let w3 = accountChanges t account (n .balance) in
+      let w4 = tradeWrite t n ∷ [] in
+      let w5 = brokerWrite broker n ∷ [] in
+      all-append P (w1 ++ w2 ++ w3 ++ w4 ++ w5) (frees (closedLots cs ++ summaryGone t summary))
+      (all-append P (w1 ++ w2 ++ w3 ++ w4) w5
+      (all-append P (w1 ++ w2 ++ w3) w4
+      (all-append P (w1 ++ w2) w3 (all-append P w1 w2 lots-change summary-changes) account-changes)
+      (all-one P _ trades))
+      (all-one P _ brokers))
+      (subst (All P) (sym (map-append (λ (o : Row). (o, nothing)) (closedLots cs) (summaryGone t summary)))
+      (all-append P (frees (closedLots cs)) (frees (summaryGone t summary)) lots-freed summary-freed))
 
 module _ {rs : List Row} {t summary account broker : Row} {cs : List Closing}
     (r : Read rs t summary account broker cs) (n : Sums) where
@@ -198,58 +234,6 @@ module _ {rs : List Row} {t summary account broker : Row} {cs : List Closing}
   abbrev Own : Row × Row → Type 0
   Own w = Turned rs (added t summary cs n) w
 
-  lots-change : All Own (lotChanges t cs)
-  lots-change =
-      all-map (λ (c : Closing). (c .lot, holding (c .lot) (leftOf (t .form) c))) Own (keep reduced cs)
-      (all-keep (λ (c : Closing). Own (c .lot, holding (c .lot) (leftOf (t .form) c))) reduced cs
-      (λ c m.
-      let h = r .c-held c m in
-      changes (c .lot) (h .0) (of-live kindLot (c .lot) refl (h .1)) (lot-alone (c .lot) (h .0) (h .1)) _
-      (holding-key (c .lot) (leftOf (t .form) c))))
-
-  lots-go : All Own (frees (closedLots cs))
-  lots-go =
-      all-map (λ (o : Row). (o, nothing)) Own (closedLots cs)
-      (all-map (λ (c : Closing). c .lot) (λ (o : Row). Own (o, nothing)) (keep (λ (c : Closing). not (reduced c)) cs)
-      (all-keep (λ (c : Closing). Own (c .lot, nothing)) (λ (c : Closing). not (reduced c)) cs
-      (λ c m.
-      let h = r .c-held c m in
-      goes (c .lot) (h .0) (of-live kindLot (c .lot) refl (h .1)) (lot-alone (c .lot) (h .0) (h .1)))))
-
-  held : (a b : Bool) → (not a && b) ≡ true → a ≡ false
-  held true b e = absurd (false≢true e)
-  held false b e = refl
-
-  summary-changes : All Own (summaryChanges t summary)
-  summary-changes =
-      let z = summedShares t summary in
-      all-cond Own (not (is kindFree summary) && not (gone z)) _ []
-      (λ e.
-      let live = held (is kindFree summary) (not (gone z)) e in
-      all-one Own _
-      (changes summary (r .s-held live .0) live (summary-alone live) (holding summary z) (holding-key summary z)))
-      (λ e. all-none Own)
-
-  summary-goes : All Own (frees (summaryGone t summary))
-  summary-goes =
-      let z = summedShares t summary in
-      all-map (λ (o : Row). (o, nothing)) Own (summaryGone t summary)
-      (all-cond (λ (o : Row). Own (o, nothing)) (not (is kindFree summary) && gone z) _ []
-      (λ e.
-      let live = held (is kindFree summary) (gone z) e in
-      all-one (λ (o : Row). Own (o, nothing)) summary (goes summary (r .s-held live .0) live (summary-alone live)))
-      (λ e. all-none (λ (o : Row). Own (o, nothing))))
-
-  account-changes : All Own (accountChanges t account (n .balance))
-  account-changes =
-      all-cond Own (cash (t .flags)) _ []
-      (λ e.
-      all-one Own _
-      (changes account (r .a-held) (of-live kindAccount account refl (r .a-kind))
-      (plain account kindAccount (r .a-kind) (refl, refl, refl, refl) refl refl) (holding account (n .balance))
-      (holding-key account (n .balance))))
-      (λ e. all-none Own)
-
   trade-changes : Own (tradeWrite t n)
   trade-changes =
       changes t (r .t-held) (of-live kindTrade t refl (r .t-kind))
@@ -266,8 +250,22 @@ module _ {rs : List Row} {t summary account broker : Row} {cs : List Closing}
 
   pub all-own : All Own (writes t summary account broker cs n)
   all-own =
-      all-writes Own t summary account broker cs n lots-change summary-changes account-changes trade-changes
-      broker-changes lots-go summary-goes
+      all-writes Own t summary account broker cs n
+      (λ c m.
+      let h = r .c-held c m in
+      changes (c .lot) (h .0) (of-live kindLot (c .lot) refl (h .1)) (lot-alone (c .lot) (h .0) (h .1)) _
+      (holding-key (c .lot) (leftOf (t .form) c)))
+      (λ c m.
+      let h = r .c-held c m in
+      goes (c .lot) (h .0) (of-live kindLot (c .lot) refl (h .1)) (lot-alone (c .lot) (h .0) (h .1)))
+      (λ live.
+      let z = summedShares t summary in
+      changes summary (r .s-held live .0) live (summary-alone live) (holding summary z) (holding-key summary z))
+      (λ live. goes summary (r .s-held live .0) live (summary-alone live))
+      (changes account (r .a-held) (of-live kindAccount account refl (r .a-kind))
+      (plain account kindAccount (r .a-kind) (refl, refl, refl, refl) refl refl) (holding account (n .balance))
+      (holding-key account (n .balance)))
+      trade-changes broker-changes
 
 -- ---- the kinds of rows that are changed or freed are five, and a key has one of them
 abbrev kinds : ℕ → ℕ

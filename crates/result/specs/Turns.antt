@@ -1,28 +1,26 @@
 -- The rows that a result changes or frees are ready for it: each stays in its group, or goes and is no trade, and no
 -- two stand at the same place. Assumes nothing.
-use mathlib.Core.Path.{_≡_, refl, sym, ap, subst, _∙_}
-use mathlib.Core.Bool.{Bool, true, false, false≢true, not, _&&_}
-use mathlib.Core.List.{List, [], _∷_, _++_, map, map-append, List·Memᴰ}
+use mathlib.Core.Path.{_≡_, refl, sym, ap, _∙_}
+use mathlib.Core.Bool.{Bool, true, false, false≢true}
+use mathlib.Core.List.{List, map, List·Memᴰ}
 use Prim.Native.Nat.{ℕ, _≤_}
 use native.Mathlib.Omega.{arith}
 use lib.Dec.{eqb, leb}
 use lib.ListN.{getD}
 use borrow.Author.Tests.{eqb-true, leb-false}
-use Rattle.laws.specs.All.{All, all-append, all-cond, all-keep, all-map, all-none, all-one}
+use Rattle.laws.specs.All.{All, all-map}
 use Rattle.laws.specs.Keep.{count-map, the-has}
 use Rattle.laws.specs.Place.{the-passes}
 use Rattle.laws.specs.Puts.{count-less}
-use Rattle.laws.specs.Search.{count, keep, the}
+use Rattle.laws.specs.Search.{count, the}
 use Rattle.record.specs.Codes.{kindAccount, kindBroker, kindFree, kindLot, kindSummary, kindTrade}
 use Rattle.record.specs.declared.row.Row.{Row}
 use Rattle.rules.specs.Key.{keyOf}
-use Rattle.model.specs.Flags.{cash}
 use Rattle.model.specs.Lots.{Closing}
-use Rattle.model.specs.Result.{Sums, accountChanges, brokerWrite, closedLots, gone, holding, leftOf, lotChanges}
-use Rattle.model.specs.Result.{reduced, summaryChanges, summaryGone, summedShares, tradeWrite}
+use Rattle.model.specs.Result.{Sums, brokerWrite, holding, leftOf}
+use Rattle.model.specs.Result.{summedShares, tradeWrite}
 use Rattle.model.specs.Rows.{hasKey, is, nothing, rows}
 use Rattle.facts.specs.Keys.{own-key}
-use Rattle.facts.specs.Posted.{frees}
 use Rattle.facts.specs.Result.{Read, all-own, all-writes, writes, writes-once}
 use Rattle.facts.specs.Sound.{once}
 use Rattle.chains.specs.Group.{account-stays, broker-stays, groupOf, lot-stays, summary-stays, trade-stays}
@@ -50,55 +48,6 @@ no-trade o k e f = ap (λ (x : ℕ). eqb x kindTrade) e ∙ f
 
 module _ {rs : List Row} {t summary account broker : Row} {cs : List Closing}
     (r : Read rs t summary account broker cs) (n : Sums) where
-  lots-move : All Moves (lotChanges t cs)
-  lots-move =
-      all-map (λ (c : Closing). (c .lot, holding (c .lot) (leftOf (t .form) c))) Moves (keep reduced cs)
-      (all-keep (λ (c : Closing). Moves (c .lot, holding (c .lot) (leftOf (t .form) c))) reduced cs
-      (λ c m.
-      let h = r .c-held c m .1 in
-      kept (lot-stays (holding (c .lot) (leftOf (t .form) c)) (c .lot) h h refl refl)
-      (λ z. no-trade (c .lot) kindLot h refl)))
-
-  lots-go : All Moves (frees (closedLots cs))
-  lots-go =
-      all-map (λ (o : Row). (o, nothing)) Moves (closedLots cs)
-      (all-map (λ (c : Closing). c .lot) (λ (o : Row). Moves (o, nothing)) (keep (λ (c : Closing). not (reduced c)) cs)
-      (all-keep (λ (c : Closing). Moves (c .lot, nothing)) (λ (c : Closing). not (reduced c)) cs
-      (λ c m. gone-row (r .c-held c m .1) refl)))
-
-  there : (a b : Bool) → (not a && b) ≡ true → a ≡ false
-  there true b e = absurd (false≢true e)
-  there false b e = refl
-
-  summary-moves : All Moves (summaryChanges t summary)
-  summary-moves =
-      let z = summedShares t summary in
-      all-cond Moves (not (is kindFree summary) && not (gone z)) _ []
-      (λ e.
-      let h = r .s-held (there (is kindFree summary) (not (gone z)) e) .1 in
-      all-one Moves _
-      (kept (summary-stays (holding summary z) summary h h refl refl) (λ q. no-trade summary kindSummary h refl)))
-      (λ e. all-none Moves)
-
-  summary-goes : All Moves (frees (summaryGone t summary))
-  summary-goes =
-      let z = summedShares t summary in
-      all-map (λ (o : Row). (o, nothing)) Moves (summaryGone t summary)
-      (all-cond (λ (o : Row). Moves (o, nothing)) (not (is kindFree summary) && gone z) _ []
-      (λ e.
-      all-one (λ (o : Row). Moves (o, nothing)) summary
-      (gone-row (r .s-held (there (is kindFree summary) (gone z) e) .1) refl))
-      (λ e. all-none (λ (o : Row). Moves (o, nothing))))
-
-  account-moves : All Moves (accountChanges t account (n .balance))
-  account-moves =
-      all-cond Moves (cash (t .flags)) _ []
-      (λ e.
-      all-one Moves _
-      (kept (account-stays (holding account (n .balance)) account (r .a-kind) (r .a-kind) refl)
-      (λ q. no-trade account kindAccount (r .a-kind) refl)))
-      (λ e. all-none Moves)
-
   trade-moves : Moves (tradeWrite t n)
   trade-moves =
       kept (trade-stays (tradeWrite t n .1) t (r .t-kind) (r .t-kind) refl)
@@ -111,8 +60,20 @@ module _ {rs : List Row} {t summary account broker : Row} {cs : List Closing}
 
   all-move : All Moves (writes t summary account broker cs n)
   all-move =
-      all-writes Moves t summary account broker cs n lots-move summary-moves account-moves trade-moves broker-moves
-      lots-go summary-goes
+      all-writes Moves t summary account broker cs n
+      (λ c m.
+      let h = r .c-held c m .1 in
+      kept (lot-stays (holding (c .lot) (leftOf (t .form) c)) (c .lot) h h refl refl)
+      (λ z. no-trade (c .lot) kindLot h refl))
+      (λ c m. gone-row (r .c-held c m .1) refl)
+      (λ live.
+      let h = r .s-held live .1 in
+      kept (summary-stays (holding summary (summedShares t summary)) summary h h refl refl)
+      (λ q. no-trade summary kindSummary h refl))
+      (λ live. gone-row (r .s-held live .1) refl)
+      (kept (account-stays (holding account (n .balance)) account (r .a-kind) (r .a-kind) refl)
+      (λ q. no-trade account kindAccount (r .a-kind) refl))
+      trade-moves broker-moves
 
   abbrev ws : List (Row × Row)
   ws = writes t summary account broker cs n

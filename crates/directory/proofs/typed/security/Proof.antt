@@ -1,7 +1,6 @@
 -- As `walk` of find, with the fields of this key alone. Assumes nothing.
 use Prim.Native.Nat.{_-_}
 use Rattle.laws.specs.Search.{place}
-use Rattle.record.specs.Symbol.{noSymbol}
 use Rattle.model.specs.Rows.{hasKey, rows}
 use Rattle.chains.specs.Group.{aGroup}
 use Rattle.directory.specs.Listed.{Probed}
