@@ -1,5 +1,5 @@
 //! Says what each program is linked with, so that one can be built without what the others need: `soundness` with
-//! libgauge.a from GAUGE_DIR, `calls` with libbook.a and `inner` with libinner.a from BOOK_DIR, `sqlite` with libbook.a
+//! libbook_status.a from STATUS_DIR, `calls` with libbook.a and `inner` with libinner.a from BOOK_DIR, `sqlite` with libbook.a
 //! and with SQLite. A folder that is not named is the one where `tools/lib` writes for this processor.
 
 use std::path::PathBuf;
@@ -20,11 +20,11 @@ fn archive(variable: &str, name: &str) -> String {
 }
 
 fn main() {
-    let gauge = archive("GAUGE_DIR", "libgauge.a");
+    let status = archive("STATUS_DIR", "libbook_status.a");
     let book = archive("BOOK_DIR", "libbook.a");
     let inner = archive("BOOK_DIR", "libinner.a");
     println!("cargo:rerun-if-changed=build.rs");
-    println!("cargo:rustc-link-arg-bin=soundness={gauge}");
+    println!("cargo:rustc-link-arg-bin=soundness={status}");
     println!("cargo:rustc-link-arg-bin=calls={book}");
     println!("cargo:rustc-link-arg-bin=inner={inner}");
     println!("cargo:rustc-link-arg-bin=sqlite={book}");

@@ -34,7 +34,7 @@ use Rattle.model.specs.Flags.{cash}
 use Rattle.model.specs.Names.{aSettlement, anAccount, named}
 use Rattle.model.specs.Rows.{found, hasKey, rows, there}
 use Rattle.model.specs.Sound.{cashRight, equalZ, lotOf, namesKnown, sharesOf}
-use Rattle.shelf.specs.Rows.{rowAt, rows-at, rows-past}
+use Rattle.places.specs.Rows.{rowAt, rows-at, rows-past}
 use Rattle.directory.specs.Found.{key-row}
 use Rattle.groups.specs.Sums.{HoldsSide, sharesPart}
 use Rattle.clauses.specs.Kept.{comesTo}

@@ -6,7 +6,7 @@ ghost use Prim.Native.Nat.{_<_};
 ghost use Rattle.model.specs.Names.{aTrade};
 ghost use Rattle.model.specs.Rows.{found, places, rows};
 ghost use Rattle.model.specs.Sound.{bandApart, equalZ, ratesFit, s1};
-ghost use Rattle.shelf.specs.Rows.{rowAt};
+ghost use Rattle.places.specs.Rows.{rowAt};
 ghost use Rattle.directory.specs.Listed.{Listed};
 ghost use Rattle.clauses.specs.Kept.{comesTo, lotKept};
 use directory::typed;
@@ -19,9 +19,9 @@ use kinds::rows::Lot;
 use kinds::rows::Summary;
 use kinds::rows::Trade;
 use kinds::units::Shares;
+use places::place::part;
 use record::codes::TradeStatus;
 use record::row::Grid;
-use shelf::place::part;
 
 // The band at a place overlaps itself alone.
 pub fn apart(book: &[u8], dir: &[u16], i: usize) -> bool

@@ -6,7 +6,7 @@ ghost use Prim.Native.Nat.{_<_};
 ghost use lib.Dec.{leb};
 ghost use Rattle.model.specs.Names.{aTrade};
 ghost use Rattle.model.specs.Rows.{found, places, rows};
-ghost use Rattle.shelf.specs.Rows.{rowAt};
+ghost use Rattle.places.specs.Rows.{rowAt};
 ghost use Rattle.directory.specs.Listed.{Listed};
 ghost use Rattle.clauses.specs.Hung.{fitsTrade, hangs, offset};
 use crate::holding::held;
@@ -15,8 +15,8 @@ use crate::trade::due;
 use crate::trade::settles;
 use kinds::rows::Trade;
 use kinds::rows::TradeHistory;
+use places::place::part;
 use record::codes::Kind;
-use shelf::place::part;
 
 // The status of the trade history at a place.
 fn past(book: &[u8], i: usize) -> u8

@@ -4,15 +4,15 @@ ghost use mathlib.Core.Bool.{_&&_};
 ghost use Prim.Native.Nat.{_<_};
 ghost use Rattle.model.specs.Names.{aBroker, aCustomer, aSecurity, aTaxRate, anAccount};
 ghost use Rattle.model.specs.Rows.{places, rows, there};
-ghost use Rattle.shelf.specs.Rows.{rowAt};
+ghost use Rattle.places.specs.Rows.{rowAt};
 ghost use Rattle.directory.specs.Listed.{Listed};
 use directory::typed;
 use kinds::rows::Account;
 use kinds::rows::CustomerRate;
 use kinds::units::AccountNo;
+use places::place::part;
 use record::row::Grid;
 use record::symbol::Symbol;
-use shelf::place::part;
 
 // What the customer's rate at a place names.
 pub fn rated(book: &[u8], dir: &[u16], i: usize) -> bool

@@ -6,7 +6,7 @@ ghost use Rattle.record.specs.Codes.{kindSummary, kindTrade};
 ghost use Rattle.model.specs.Names.{aSecurity, anAccount};
 ghost use Rattle.model.specs.Rows.{places, rows, there};
 ghost use Rattle.model.specs.Sound.{s1};
-ghost use Rattle.shelf.specs.Rows.{rowAt};
+ghost use Rattle.places.specs.Rows.{rowAt};
 ghost use Rattle.directory.specs.Listed.{Listed};
 ghost use Rattle.clauses.specs.Kept.{summaryKept};
 ghost use Rattle.clauses.specs.Own.{ownWell};
@@ -18,8 +18,8 @@ use crate::names::served;
 use crate::names::traded;
 use crate::trade::done;
 use kinds::rows::Summary;
+use places::place::part;
 use record::codes::Kind;
-use shelf::place::part;
 
 // A summary's own rule.
 pub fn kept(book: &[u8], dir: &[u16], i: usize) -> bool

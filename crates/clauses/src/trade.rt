@@ -9,7 +9,7 @@ ghost use Rattle.model.specs.Flags.{cash};
 ghost use Rattle.model.specs.Names.{aTrade, anAccount};
 ghost use Rattle.model.specs.Rows.{found, places, rows};
 ghost use Rattle.model.specs.Sound.{cashRight, tradesDone};
-ghost use Rattle.shelf.specs.Rows.{rowAt};
+ghost use Rattle.places.specs.Rows.{rowAt};
 ghost use Rattle.directory.specs.Listed.{Listed};
 ghost use Rattle.clauses.specs.Rules.{asAsked, sameTerms};
 use directory::typed;
@@ -22,9 +22,9 @@ use kinds::rows::Trade;
 use kinds::units::AccountNo;
 use kinds::units::BrokerNo;
 use kinds::units::TradeNo;
+use places::place::part;
+use places::place::record_at;
 use record::codes::TradeStatus;
-use shelf::place::part;
-use shelf::place::record_at;
 
 // The broker of an account, 0 where there is no such account.
 fn broker_of(book: &[u8], dir: &[u16], no: AccountNo) -> BrokerNo

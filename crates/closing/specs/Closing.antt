@@ -25,7 +25,7 @@ use Rattle.model.specs.Money.{buys}
 use Rattle.model.specs.Rows.{is, mostRecords, nothing, rows}
 use Rattle.model.specs.Sound.{lotOf, s1, short}
 use Rattle.facts.specs.Rows.{length-rows}
-use Rattle.shelf.specs.Rows.{rowAt}
+use Rattle.places.specs.Rows.{rowAt}
 use Rattle.sorted.specs.Order.{InOrder, each-still, goes}
 use Rattle.sorted.specs.declared.By.{By}
 use Rattle.sorted.specs.declared.By.the-variants.{Falling, Rising}

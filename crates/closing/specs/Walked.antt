@@ -20,7 +20,7 @@ use Rattle.model.specs.Lots.{closings, lotsFor}
 use Rattle.model.specs.Lots
 use Rattle.model.specs.Money.{buys}
 use Rattle.model.specs.Rows.{rows}
-use Rattle.shelf.specs.Rows.{rowAt}
+use Rattle.places.specs.Rows.{rowAt}
 use Rattle.rules.specs.Ranges.{priceMost}
 use Rattle.money.specs.Amounts.{valueMost}
 use Rattle.walk.specs.Walk.{Within, begun, lot-price, made, stepped, through, through-next}

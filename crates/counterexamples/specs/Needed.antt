@@ -22,7 +22,7 @@ use Rattle.model.specs.Edit.{_≔_, new}
 use Rattle.model.specs.Evaluate.{resultOpened}
 use Rattle.model.specs.Rows.{recordSize}
 use Rattle.model.specs.Status.{number}
-use Rattle.kept.specs.Calls.{SoundBytes}
+use Rattle.preserved.specs.Calls.{SoundBytes}
 use Rattle.witness.specs.Pair.{answered, apart, area, differ, numbered, one, order-one, order-other}
 use Rattle.witness.specs.Pair.{no-places, other, pass₁, pass₂, resultOf, theirs, two-accounts}
 use Rattle.reorder.specs.Statement.{Order, SameEnd, TwoRuns, accountOf, ownPlaces, replies, rightLengths}

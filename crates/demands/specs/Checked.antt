@@ -27,7 +27,7 @@ use Rattle.model.specs.SoundMeans.{SoundBook, means-sound}
 use Rattle.model.specs.Status.{number}
 use Rattle.facts.specs.Status.{one-status}
 use Rattle.facts.specs.Checks.{decided-status}
-use Rattle.kept.specs.Cases.{not-so}
+use Rattle.preserved.specs.Cases.{not-so}
 use Rattle.demands.specs.Conditions.{means-a-security, means-a-trade, means-absent, means-an-account}
 use Rattle.demands.specs.Conditions.{means-bad-book, means-fields, means-lengths, means-more, means-no-charge}
 use Rattle.demands.specs.Conditions.{means-no-rate, means-not, means-one-fails, means-some, means-unknown}

@@ -33,8 +33,8 @@ use Rattle.model.specs.Sound.{sound}
 use Rattle.facts.specs.Found.{found-has, found-none, sound-s1, the-most}
 use Rattle.facts.specs.Names.{by-id, by-party, by-symbol}
 use Rattle.facts.specs.Keys.{key-kind, of-live}
-use Rattle.kept.specs.Cases.{by-cases, none-passes, not-so}
-use Rattle.kept.specs.Once as once
+use Rattle.preserved.specs.Cases.{by-cases, none-passes, not-so}
+use Rattle.preserved.specs.Once as once
 use Rattle.demands.specs.Demand2.{Account, Band, Charge, None, Records, RightFields, RightLengths, Security}
 use Rattle.demands.specs.Demand2.{Some, Trade, Untaxed, ZeroOrNone}
 

@@ -25,8 +25,8 @@ use Rattle.model.specs.Unposted.{refusal-leaves}
 use Rattle.model.specs.declared.Status.{Status}
 use Rattle.model.specs.declared.Status.the-variants.{BadBook, BadInput, BadLength, Done, Unsound}
 use Rattle.facts.specs.Status.{done-number, fits-32, number-back}
-use Rattle.kept.specs.Calls.{uncalled}
-use Rattle.kept.specs.Cases.{by-cases, not-so}
+use Rattle.preserved.specs.Calls.{uncalled}
+use Rattle.preserved.specs.Cases.{by-cases, not-so}
 use Rattle.demands.specs.Demand1.{Demand1, Keeps, Says}
 
 -- ---- the area of a refusal

@@ -12,8 +12,8 @@ use Rattle.model.specs.Order.{tradeId}
 use Rattle.model.specs.Rows.{is, nothing, rows, sameRow}
 use Rattle.model.specs.Sound.{s1}
 use Rattle.facts.specs.Rows.{Clean, clean-fit, same-rows}
-use Rattle.shelf.specs.Put.{free-add}
-use Rattle.shelf.specs.Rows.{after, freeFrom, putAt, rowAt}
+use Rattle.places.specs.Put.{free-add}
+use Rattle.places.specs.Rows.{after, freeFrom, putAt, rowAt}
 use Rattle.directory.specs.Directory.{Directory}
 use Rattle.directory.specs.declared.totals.Totals.{Totals}
 

@@ -21,7 +21,7 @@ use Rattle.model.specs.Order.{tradeId}
 use Rattle.model.specs.Plan.{room}
 use Rattle.model.specs.Rows.{is, mostRecords, nothing, rows}
 use Rattle.facts.specs.Rows.{length-rows}
-use Rattle.shelf.specs.Rows.{rowAt}
+use Rattle.places.specs.Rows.{rowAt}
 use Rattle.chains.specs.Chains.{half}
 use Rattle.chains.specs.Group.{bucketOf, groupOf, mostHeads, rowBucket}
 use Rattle.directory.specs.Listed.{Listed, places}

@@ -21,9 +21,9 @@ use Rattle.record.specs.declared.row.Row.{Row}
 use Rattle.model.specs.Order.{tradeId}
 use Rattle.model.specs.Plan.{room}
 use Rattle.model.specs.Rows.{is, mostRecords, nothing, rows}
-use Rattle.shelf.specs.Put.{Adding, add-next}
+use Rattle.places.specs.Put.{Adding, add-next}
 use Rattle.facts.specs.Rows.{length-rows}
-use Rattle.shelf.specs.Rows.{after, freeFrom, length-putAt, putAt, rowAt, rows-past}
+use Rattle.places.specs.Rows.{after, freeFrom, length-putAt, putAt, rowAt, rows-past}
 use Rattle.chains.specs.Chains.{half}
 use Rattle.directory.specs.Directory.{Directory}
 use Rattle.chains.specs.Group.{group-kind, groupOf, keyGroup, rowBucket, same-bucket}

@@ -17,9 +17,9 @@ use Rattle.rules.specs.KeyLaws.{same-keys}
 use Rattle.rules.specs.declared.key.Key.{Key}
 use Rattle.record.specs.declared.row.Row.{Row}
 use Rattle.model.specs.Rows.{hasKey, is, mostRecords, nothing, rows}
-use Rattle.shelf.specs.Loop.{Sought, seek-found, seek-more, seek-none}
+use Rattle.places.specs.Loop.{Sought, seek-found, seek-more, seek-none}
 use Rattle.facts.specs.Rows.{length-rows}
-use Rattle.shelf.specs.Rows.{rowAt}
+use Rattle.places.specs.Rows.{rowAt}
 use Rattle.chains.specs.Chains.{half}
 use Rattle.chains.specs.Group.{apart, bucket-bound, bucketOf, by-key, groupOf, keyGroup, mostHeads, rowBucket}
 

@@ -21,7 +21,7 @@ use Rattle.rules.specs.declared.key.Key.{Key}
 use Rattle.record.specs.declared.row.Row.{Row}
 use Rattle.model.specs.Rows.{is, mostRecords, nothing, rows}
 use Rattle.facts.specs.Rows.{length-rows}
-use Rattle.shelf.specs.Rows.{freeFrom, length-putAt, putAt, rowAt}
+use Rattle.places.specs.Rows.{freeFrom, length-putAt, putAt, rowAt}
 use Rattle.chains.specs.Chains.{Before, Rising, half, walk-start}
 use Rattle.chains.specs.Group.{bucketOf, free-bucket, group-kind, groupOf, live-bucket, mostHeads, row-bound}
 use Rattle.chains.specs.Group.{rowBucket}

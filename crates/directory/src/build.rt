@@ -9,10 +9,10 @@ use crate::totals::raised;
 use chains::chain::link;
 use chains::group;
 use kinds::units::TradeNo;
+use places::count::bit;
+use places::place::row_at;
 use record::codes::Kind;
 use record::row::Grid;
-use shelf::count::bit;
-use shelf::place::row_at;
 
 // The number of a book's places.
 pub fn places(book: &[u8]) -> usize

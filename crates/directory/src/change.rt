@@ -6,7 +6,7 @@ ghost use lib.ListN.{set};
 ghost use Rattle.record.specs.Codes.{kindFree};
 ghost use Rattle.model.specs.Order.{tradeId};
 ghost use Rattle.model.specs.Rows.{is, nothing, rows};
-ghost use Rattle.shelf.specs.Rows.{freeFrom, putAt, rowAt};
+ghost use Rattle.places.specs.Rows.{freeFrom, putAt, rowAt};
 ghost use Rattle.chains.specs.Chains.{half};
 ghost use Rattle.directory.specs.Directory.{Directory};
 ghost use Rattle.chains.specs.Group.{groupOf};
@@ -19,11 +19,11 @@ use chains::chain::first;
 use chains::chain::link;
 use chains::chain::unlink;
 use chains::group;
+use places::place::nothing;
+use places::place::row_at;
+use places::put::put;
 use record::codes::Kind;
 use record::row::Row;
-use shelf::place::nothing;
-use shelf::place::row_at;
-use shelf::put::put;
 
 // The lowest free place, the number of places where there is none.
 pub fn lowest(book: &[u8], dir: &[u16]) -> usize

@@ -6,16 +6,16 @@ ghost use lib.ListN.{drop};
 ghost use Rattle.laws.specs.Search.{place, seek};
 ghost use Rattle.rules.specs.Key.{keyOf};
 ghost use Rattle.model.specs.Rows.{hasKey, rows};
-ghost use Rattle.shelf.specs.Rows.{rowAt};
+ghost use Rattle.places.specs.Rows.{rowAt};
 ghost use Rattle.chains.specs.Group.{apart, keyGroup};
 ghost use Rattle.directory.specs.Listed.{InBucket, Listed, places};
 use chains::chain::next;
 use chains::group;
+use places::place::row_at;
+use places::search::named;
 use record::row::Grid;
 use record::row::Row;
 use rules::key::Key;
-use shelf::place::row_at;
-use shelf::search::named;
 
 // The row has the key. Most rows of a bucket that have not are of another kind; of the key's own kind only the fields
 // of its key are compared.

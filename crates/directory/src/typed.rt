@@ -17,12 +17,12 @@ use kinds::units::BrokerNo;
 use kinds::units::CustomerNo;
 use kinds::units::RateNo;
 use kinds::units::TradeNo;
+use places::place::row_at;
 use record::codes::Kind;
 use record::row::Grid;
 use record::row::Row;
 use record::symbol::Symbol;
 use rules::key::Key;
-use shelf::place::row_at;
 
 fn named(
     book: &[u8],

@@ -30,7 +30,7 @@ use Rattle.model.specs.Rows.{found, hasKey, rows, there}
 use Rattle.model.specs.Sound.{ratesOf, sound}
 use Rattle.facts.specs.Found.{sound-s1}
 use Rattle.facts.specs.Most.{price-most, rate-most, rates-most}
-use Rattle.shelf.specs.Rows.{rowAt}
+use Rattle.places.specs.Rows.{rowAt}
 use Rattle.directory.specs.Found.{key-row, key-there}
 use Rattle.directory.specs.Listed.{places}
 use Rattle.money.specs.Amounts.{UpTo, up-to}

@@ -25,8 +25,8 @@ use kinds::units::CustomerNo;
 use kinds::units::PerHundredThousand;
 use kinds::units::PerTenThousand;
 use kinds::units::TradeNo;
+use places::place::record_at;
 use record::symbol::Symbol;
-use shelf::place::record_at;
 
 // An account, and whether it is there.
 pub struct Holder {

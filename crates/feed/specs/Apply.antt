@@ -26,7 +26,7 @@ use Rattle.model.specs.Rows.{found, is, nothing, rows, there}
 use Rattle.facts.specs.Found.{found-none}
 use Rattle.facts.specs.Feed.{sharesFor, there-next, volume-next}
 use Rattle.facts.specs.Rows.{length-rows}
-use Rattle.shelf.specs.Rows.{rowAt}
+use Rattle.places.specs.Rows.{rowAt}
 use Rattle.directory.specs.Listed.{places}
 use Rattle.directory.specs.declared.totals.Totals.{Totals}
 use Rattle.hits.specs.Due.{Going, after-quote, fresh-submits, going-on}

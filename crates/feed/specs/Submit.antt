@@ -50,8 +50,8 @@ use Rattle.facts.specs.Found.{found-has}
 use Rattle.facts.specs.Names.{by-symbol}
 use Rattle.model.specs.Sound.{s1}
 use Rattle.facts.specs.Rows.{Clean, length-rows, put-found, there-alike}
-use Rattle.shelf.specs.Put.{free-put}
-use Rattle.shelf.specs.Rows.{freeFrom, putAt, rowAt, rows-past}
+use Rattle.places.specs.Put.{free-put}
+use Rattle.places.specs.Rows.{freeFrom, putAt, rowAt, rows-past}
 use Rattle.chains.specs.Group.{groupOf, security-stays, trade-stays}
 use Rattle.directory.specs.Added.{Added, added-keeps, added-one}
 use Rattle.directory.specs.Directory.{Directory}

@@ -21,7 +21,7 @@ use Rattle.kinds.specs.declared.inputs.FeedInput.{FeedInput}
 use Rattle.kinds.specs.declared.rows.Request.{Request}
 use Rattle.model.specs.Rows.{is, nothing, rows}
 use Rattle.facts.specs.Rows.{length-rows}
-use Rattle.shelf.specs.Rows.{rowAt}
+use Rattle.places.specs.Rows.{rowAt}
 use Rattle.directory.specs.Listed.{places}
 use Rattle.groups.specs.Sums.{requestOn}
 use Rattle.hits.specs.Hits.{anyReaches, due, hit-one-more, hitBy, hits, reaches}

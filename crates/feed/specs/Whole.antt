@@ -20,7 +20,7 @@ use Rattle.model.specs.declared.Status.{Status}
 use Rattle.facts.specs.Rows.{length-rows}
 use Rattle.facts.specs.Checks.{decided-done, decided-refused}
 use Rattle.facts.specs.Status.{is-done}
-use Rattle.shelf.specs.Rows.{putAt}
+use Rattle.places.specs.Rows.{putAt}
 use Rattle.reply.specs.Left.{answerLeft, bookLeft, left-accepted, left-refused}
 use Rattle.facts.specs.Found.{sound-s1}
 use Rattle.facts.specs.Rows.{clean-fit}

@@ -18,13 +18,13 @@ use crate::sweep::sweep;
 use directory::totals::Totals;
 use hits::gather::submitted;
 use hits::judge::judge;
+use places::place::nothing;
+use places::put::put;
 use record::codes::Kind;
 use record::row::Grid;
 use record::row::Row;
 use reply::Ended;
 use reply::done;
-use shelf::place::nothing;
-use shelf::put::put;
 
 fn answer_row(entries: usize, trades: usize) -> Row
     requires { ⌜ (entries < 4294967296) × (trades < 4294967296) ⌝ }

@@ -13,7 +13,7 @@ ghost use Rattle.kinds.specs.Units.{shares};
 ghost use Rattle.model.specs.Feed.{fed};
 ghost use Rattle.model.specs.Names.{aSecurity, aTrade};
 ghost use Rattle.model.specs.Rows.{found, rows, there};
-ghost use Rattle.shelf.specs.Rows.{rowAt};
+ghost use Rattle.places.specs.Rows.{rowAt};
 ghost use Rattle.directory.specs.Directory.{Directory};
 ghost use Rattle.feed.specs.Apply.{Ahead, Applied, Entry};
 ghost use Rattle.feed.specs.Submit.{Asking, Ready, Sent, numbers, quotedBy, sentIn};
@@ -32,8 +32,8 @@ use kinds::rows::TradeHistory;
 use kinds::units::Shares;
 use kinds::units::Time;
 use kinds::units::TradeNo;
+use places::place::record_at;
 use record::codes::TradeStatus;
-use shelf::place::record_at;
 use sorted::Sorted;
 use sorted::request_at;
 

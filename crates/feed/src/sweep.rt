@@ -5,7 +5,7 @@ ghost use mathlib.Core.List.{map};
 ghost use lib.ListN.{set};
 ghost use Rattle.record.specs.Codes.{kindRequest};
 ghost use Rattle.model.specs.Rows.{is, rows};
-ghost use Rattle.shelf.specs.Rows.{rowAt};
+ghost use Rattle.places.specs.Rows.{rowAt};
 ghost use Rattle.directory.specs.Directory.{Directory};
 ghost use Rattle.feed.specs.Sweep.{leaves, left};
 use directory::build::places;

@@ -16,7 +16,7 @@ use Rattle.laws.specs.Walk.{from-high, from-holds, from-low, from-passes, left-
 use Rattle.record.specs.declared.row.Row.{Row}
 use Rattle.model.specs.Rows.{mostRecords, nothing, rows}
 use Rattle.facts.specs.Rows.{length-rows}
-use Rattle.shelf.specs.Rows.{rowAt}
+use Rattle.places.specs.Rows.{rowAt}
 use Rattle.directory.specs.Listed.{places}
 
 -- what a place tells: it is inside the book, and a row of p stands there

@@ -40,7 +40,7 @@ use Rattle.model.specs.Rows.{found, is, mostRecords, nothing, rows}
 use Rattle.model.specs.Sound.{lotOf, overlaps, rateOf, s1}
 use Rattle.facts.specs.Rows.{length-rows}
 use Rattle.facts.specs.Names.{ofParty}
-use Rattle.shelf.specs.Rows.{rowAt}
+use Rattle.places.specs.Rows.{rowAt}
 use Rattle.chains.specs.Group.{aGroup, groupOf, keyGroup, lotGroup, requestGroup}
 use Rattle.chains.specs.Chains.{half}
 use Rattle.directory.specs.Listed.{Counted, Grouped, Listed, Tallied, only-grouped, places, tally-all, tally-more}

@@ -5,18 +5,18 @@ ghost use Rattle.laws.specs.Search.{place};
 ghost use Rattle.record.specs.Signed.{up};
 ghost use Rattle.model.specs.Band.{bandFor, bandRate};
 ghost use Rattle.model.specs.Rows.{places, rows};
-ghost use Rattle.shelf.specs.Rows.{rowAt};
+ghost use Rattle.places.specs.Rows.{rowAt};
 ghost use Rattle.directory.specs.Listed.{Listed};
 use chains::chain::next;
 use chains::group;
 use kinds::rows::Band;
 use kinds::units::PerTenThousand;
 use kinds::units::Shares;
+use places::place::part;
+use places::place::record_at;
 use record::codes::Kind;
 use record::row::Grid;
 use record::symbol::Symbol;
-use shelf::place::part;
-use shelf::place::record_at;
 
 // The record at a place is the band that holds the shares.
 fn holds(book: &[u8], form: u8, tier: u8, exchange: u8, shares: Shares, at: usize) -> bool

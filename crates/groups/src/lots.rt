@@ -8,17 +8,17 @@ ghost use Rattle.laws.specs.Search.{place, seek};
 ghost use Rattle.record.specs.Symbol.{sameSymbol};
 ghost use Rattle.model.specs.Rows.{places, rows};
 ghost use Rattle.model.specs.Sound.{lotOf};
-ghost use Rattle.shelf.specs.Rows.{rowAt};
+ghost use Rattle.places.specs.Rows.{rowAt};
 ghost use Rattle.directory.specs.Listed.{Listed};
 use crate::turn::first_of;
 use crate::turn::next_of;
 use chains::group;
 use kinds::rows::Lot;
 use kinds::units::AccountNo;
+use places::place::part;
 use record::codes::Kind;
 use record::row::Grid;
 use record::symbol::Symbol;
-use shelf::place::part;
 
 // A lot is of an account and symbol.
 pub fn in_holding(account: AccountNo, symbol: Symbol, lot: Lot) -> bool

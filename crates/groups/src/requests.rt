@@ -5,17 +5,17 @@ ghost use Prim.Native.Nat.{_+_, _<_};
 ghost use lib.ListN.{drop};
 ghost use Rattle.laws.specs.Search.{place, seek};
 ghost use Rattle.model.specs.Rows.{places, rows};
-ghost use Rattle.shelf.specs.Rows.{rowAt};
+ghost use Rattle.places.specs.Rows.{rowAt};
 ghost use Rattle.directory.specs.Listed.{Listed};
 ghost use Rattle.groups.specs.Sums.{requestOn};
 use crate::turn::first_of;
 use crate::turn::next_of;
 use chains::group;
 use kinds::rows::Request;
+use places::place::part;
 use record::codes::Kind;
 use record::row::Grid;
 use record::symbol::Symbol;
-use shelf::place::part;
 
 // The record at a place is a request on a symbol.
 pub fn asked(book: &[u8], symbol: Symbol, at: usize) -> bool

@@ -9,7 +9,7 @@ ghost use Rattle.rules.specs.Ranges.{taxPart};
 ghost use Rattle.rules.specs.Rules.{fits};
 ghost use Rattle.model.specs.Rows.{places, rows};
 ghost use Rattle.model.specs.Sound.{lotOf, overlaps, rateOf, ratesOf, s1};
-ghost use Rattle.shelf.specs.Rows.{rowAt};
+ghost use Rattle.places.specs.Rows.{rowAt};
 ghost use Rattle.directory.specs.Listed.{Listed};
 ghost use Rattle.groups.specs.Sums.{AddsSide, HoldsSide, meet, meets};
 use crate::lots::in_holding;
@@ -24,13 +24,13 @@ use kinds::units::AccountNo;
 use kinds::units::CustomerNo;
 use kinds::units::PerHundredThousand;
 use kinds::units::Shares;
+use places::count::bit;
+use places::place::part;
+use places::place::record_at;
 use record::bytes::wide32;
 use record::codes::Kind;
 use record::row::Grid;
 use record::symbol::Symbol;
-use shelf::count::bit;
-use shelf::place::part;
-use shelf::place::record_at;
 
 // Two bands have shares in common.
 fn overlap(a: Band, b: Band) -> bool

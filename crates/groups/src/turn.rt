@@ -6,7 +6,7 @@ ghost use Prim.Native.Nat.{_+_, _<_};
 ghost use lib.ListN.{drop};
 ghost use Rattle.laws.specs.Search.{place, seek};
 ghost use Rattle.model.specs.Rows.{places, rows};
-ghost use Rattle.shelf.specs.Rows.{rowAt};
+ghost use Rattle.places.specs.Rows.{rowAt};
 ghost use Rattle.directory.specs.Listed.{Grouped, InBucket, Listed};
 ghost use Rattle.groups.specs.Sums.{member};
 use crate::lots::held;

@@ -20,7 +20,7 @@ use Rattle.kinds.specs.declared.inputs.FeedInput.{FeedInput}
 use Rattle.model.specs.Feed.{lower}
 use Rattle.model.specs.Rows.{is, mostRecords, rows}
 use Rattle.facts.specs.Rows.{length-rows}
-use Rattle.shelf.specs.Rows.{rowAt}
+use Rattle.places.specs.Rows.{rowAt}
 use Rattle.sorted.specs.Order.{InOrder, each-still, goes}
 use Rattle.sorted.specs.declared.By.the-variants.{Number}
 use Rattle.directory.specs.Listed.{places}

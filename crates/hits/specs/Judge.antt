@@ -29,8 +29,8 @@ use Rattle.model.specs.Sound.{sound}
 use Rattle.facts.specs.Rows.{length-rows}
 use Rattle.facts.specs.Feed.{sharesFor, volumes-fit}
 use Rattle.facts.specs.Checks.{passed}
-use Rattle.shelf.specs.Loop.{loops}
-use Rattle.shelf.specs.Rows.{rowAt}
+use Rattle.places.specs.Loop.{loops}
+use Rattle.places.specs.Rows.{rowAt}
 use Rattle.directory.specs.Found.{key-row, key-there}
 use Rattle.kinds.specs.Inputs.{feedInputOf}
 use Rattle.kinds.specs.declared.inputs.FeedInput.{FeedInput}

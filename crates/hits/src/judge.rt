@@ -14,7 +14,7 @@ ghost use Rattle.model.specs.Plan.{verdict};
 ghost use Rattle.model.specs.Feed.{checks};
 ghost use Rattle.model.specs.Sound.{sound};
 ghost use Rattle.facts.specs.Feed.{sharesFor};
-ghost use Rattle.shelf.specs.Rows.{rowAt};
+ghost use Rattle.places.specs.Rows.{rowAt};
 ghost use Rattle.directory.specs.Directory.{Directory};
 ghost use Rattle.directory.specs.Listed.{Listed, places};
 ghost use Rattle.hits.specs.Hits.{anyReaches, due, firstHit, reaches};
@@ -26,12 +26,12 @@ use kinds::inputs::FeedInput;
 use kinds::limits::Ranges;
 use kinds::rows::Request;
 use model::Status;
+use places::place::record_at;
+use places::place::row_at;
 use record::codes::TradeType;
 use record::row::Grid;
 use record::symbol::Symbol;
 use reply::also;
-use shelf::place::record_at;
-use shelf::place::row_at;
 use sorted::request_at;
 
 // The entry at a place of the input.

@@ -11,10 +11,10 @@ use kinds::inputs::LookupInput;
 use kinds::inputs::OrderInput;
 use kinds::inputs::ResultInput;
 use kinds::limits::Rule;
+use places::place::row_at;
 use record::row::Grid;
 use record::row::Row;
 use rules::obey::obeys;
-use shelf::place::row_at;
 
 fn order(r: Row) -> bool
     ensures { λ b. ⌜ b ≡ orderInput r ⌝ }

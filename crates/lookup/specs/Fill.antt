@@ -26,7 +26,7 @@ use Rattle.model.specs.declared.Status.{Status}
 use Rattle.facts.specs.Rows.{length-rows}
 use Rattle.facts.specs.Checks.{decided-done, decided-refused}
 use Rattle.facts.specs.Status.{is-done}
-use Rattle.shelf.specs.Rows.{rowAt}
+use Rattle.places.specs.Rows.{rowAt}
 use Rattle.reply.specs.Left.{answerLeft}
 
 -- every record names a trade that is there

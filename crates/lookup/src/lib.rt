@@ -10,20 +10,20 @@ ghost use Rattle.model.specs.Rows.{places, rows, there, wholeRecords};
 ghost use Rattle.model.specs.Plan.{verdict};
 ghost use Rattle.directory.specs.Listed.{Listed};
 ghost use Rattle.reply.specs.Left.{answerLeft};
-ghost use Rattle.shelf.specs.Rows.{rowAt};
+ghost use Rattle.places.specs.Rows.{rowAt};
 ghost use Rattle.lookup.specs.Fill.{Answers, allKnown, asked};
 use directory::typed::settlement;
 use directory::typed::trade;
 use kinds::inputs::LookupInput;
 use kinds::units::TradeNo;
 use model::Status;
+use places::place::part;
+use places::place::row_at;
+use places::put::put;
 use record::row::Grid;
 use record::row::places;
 use reply::also;
 use reply::done;
-use shelf::place::part;
-use shelf::place::row_at;
-use shelf::put::put;
 
 // The trade that a record of the input asks for.
 fn asked(input: &[u8], i: usize) -> TradeNo

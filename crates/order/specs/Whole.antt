@@ -34,7 +34,7 @@ use Rattle.facts.specs.Checks.{decided-done, decided-refused}
 use Rattle.facts.specs.Found.{found-kind, found-none, sound-s1, the-most}
 use Rattle.facts.specs.Keys.{key-kind}
 use Rattle.facts.specs.Status.{is-done}
-use Rattle.shelf.specs.Rows.{putAt}
+use Rattle.places.specs.Rows.{putAt}
 use Rattle.directory.specs.Added.{Room, room-start}
 use Rattle.directory.specs.Directory.{Directory}
 use Rattle.directory.specs.declared.totals.Totals.{Totals}

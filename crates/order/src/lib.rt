@@ -19,9 +19,9 @@ use estimate::figures::estimated;
 use estimate::judge::judge;
 use estimate::terms::terms_of;
 use kinds::inputs::OrderInput;
+use places::put::put;
 use reply::Ended;
 use reply::done;
-use shelf::put::put;
 
 // What an order gives on a book that is sound: the book and the answer of the rules, and where it is refused both areas
 // as they were.

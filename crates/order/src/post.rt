@@ -15,12 +15,12 @@ use kinds::rows::Trade;
 use kinds::rows::TradeHistory;
 use kinds::units::Cents;
 use kinds::units::Price;
+use places::place::nothing;
 use record::codes::Kind;
 use record::codes::TradeStatus;
 use record::codes::TradeType;
 use record::row::Row;
 use record::symbol::Symbol;
-use shelf::place::nothing;
 
 // An order at the market's price is submitted; any other waits.
 fn first_status(input: OrderInput) -> u8

@@ -16,7 +16,7 @@ use Rattle.model.specs.Flags.{cash}
 use Rattle.model.specs.Order.{tradeId}
 use Rattle.model.specs.Result.{brokerAfter, gone, holding, tradeAfter}
 use Rattle.model.specs.Rows.{is, nothing, rows}
-use Rattle.shelf.specs.Rows.{putAt, rowAt}
+use Rattle.places.specs.Rows.{putAt, rowAt}
 use Rattle.chains.specs.Group.{groupOf}
 use Rattle.directory.specs.Directory.{Directory}
 use Rattle.directory.specs.declared.totals.Totals.{Totals}

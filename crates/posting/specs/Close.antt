@@ -28,7 +28,7 @@ use Rattle.model.specs.Order.{tradeId}
 use Rattle.model.specs.Result.{closedLots, closingRows, holding, lotChanges, lotHistory, reduced, signed}
 use Rattle.model.specs.Rows.{is, mostRecords, nothing, rows, sameRow}
 use Rattle.facts.specs.Lots.{closings-next, closings-none}
-use Rattle.shelf.specs.Rows.{putAt, rowAt}
+use Rattle.places.specs.Rows.{putAt, rowAt}
 use Rattle.money.specs.Amounts.{UpTo, up-to, valueMost}
 use Rattle.walk.specs.Walk.{Within, restOf, stepped}
 use Rattle.walk.specs.declared.Walk.{Walk}

@@ -18,7 +18,7 @@ use Rattle.record.specs.Codes.{kindFree, kindTrade}
 use Rattle.record.specs.declared.row.Row.{Row}
 use Rattle.model.specs.Order.{tradeId}
 use Rattle.model.specs.Rows.{is, nothing, rows}
-use Rattle.shelf.specs.Rows.{putAt, rowAt}
+use Rattle.places.specs.Rows.{putAt, rowAt}
 use Rattle.chains.specs.Group.{groupOf}
 use Rattle.directory.specs.Directory.{Directory}
 use Rattle.directory.specs.declared.totals.Totals.{Totals}

@@ -10,7 +10,7 @@ ghost use Rattle.kinds.specs.Written.{tradeRow};
 ghost use Rattle.rules.specs.Ranges.{sharesMost};
 ghost use Rattle.model.specs.Result.{closingRows};
 ghost use Rattle.model.specs.Rows.{mostRecords};
-ghost use Rattle.shelf.specs.Rows.{rowAt};
+ghost use Rattle.places.specs.Rows.{rowAt};
 ghost use Rattle.money.specs.Amounts.{UpTo, valueMost};
 ghost use Rattle.walk.specs.Walk.{Within};
 ghost use Rattle.directory.specs.Added.{Added, Room};

@@ -27,11 +27,11 @@ use kinds::units::Price;
 use kinds::units::Shares;
 use kinds::units::Time;
 use kinds::units::TradeNo;
+use places::place::nothing;
 use record::codes::Kind;
 use record::codes::TradeStatus;
 use record::row::Row;
 use record::symbol::Symbol;
-use shelf::place::nothing;
 use verdict::figures::Figures;
 
 pub fn lot_history(lot: TradeNo, by: TradeNo, before: Shares, after: Shares) -> Row

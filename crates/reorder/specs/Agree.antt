@@ -10,7 +10,7 @@ use Rattle.laws.specs.Keep.{count-has, count-one, the-has}
 use Rattle.laws.specs.Place.{the-none, the-passes}
 use Rattle.laws.specs.Search.{bit, count, the, total}
 use Rattle.laws.specs.Puts.{is-counted, member}
-use Rattle.kept.specs.Cases.{by-cases, cond-no, cond-yes, no, none-passes}
+use Rattle.preserved.specs.Cases.{by-cases, cond-no, cond-yes, no, none-passes}
 use Rattle.laws.specs.Total.{total-zero}
 
 module _ {A : Type 0} (same : A → A → Bool) where

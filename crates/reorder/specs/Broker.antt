@@ -20,8 +20,8 @@ use Rattle.model.specs.Result.{brokerAfter, figures, posting, view}
 use Rattle.model.specs.Rows.{found, hasKey, is, nothing}
 use Rattle.facts.specs.Names.{by-party}
 use Rattle.facts.specs.Posted.{writes}
-use Rattle.kept.specs.Cases.{cond-no}
-use Rattle.kept.specs.Once.{key-once}
+use Rattle.preserved.specs.Cases.{cond-no}
+use Rattle.preserved.specs.Once.{key-once}
 use Rattle.reorder.specs.Agree.{only, the-total}
 use Rattle.reorder.specs.Inv.{Inv, broker-key, broker-kind, inv-step, itsBroker, sum-none, totals, turns}
 use Rattle.reorder.specs.Sim.{final, trace}

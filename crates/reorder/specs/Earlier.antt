@@ -10,7 +10,7 @@ use borrow.Author.Tests.{eq-eqb, eqb-true, le-leb, leb-false, leb-true, lt-ltb, 
 use Rattle.laws.specs.Tests.{and-both, and-left, and-right, or-cases, or-left, or-right}
 use Rattle.record.specs.declared.row.Row.{Row}
 use Rattle.model.specs.Lots.{before, earlier}
-use Rattle.kept.specs.Cases.{by-cases, no}
+use Rattle.preserved.specs.Cases.{by-cases, no}
 
 abbrev First : Row → Row → Type 0
 First a b = (a .time < b .time) ⊎ ((a .time ≡ b .time) × (a .id ≤ b .id))

@@ -31,8 +31,8 @@ use Rattle.facts.specs.Found.{found-kind, found-live, found-member}
 use Rattle.facts.specs.Keys.{key-kind}
 use Rattle.facts.specs.Posted.{adds, frees, writes}
 use Rattle.facts.specs.Checks.{decided-refused, verdict-next}
-use Rattle.kept.specs.Cases.{by-cases, no}
-use Rattle.kept.specs.Once.{key-once}
+use Rattle.preserved.specs.Cases.{by-cases, no}
+use Rattle.preserved.specs.Once.{key-once}
 use Rattle.reorder.specs.Agree.{Agree, the-total}
 use Rattle.reorder.specs.Step.{Done, Note, Refused, broker-has, done-live, done-sound, done-total, outcome}
 use Rattle.reorder.specs.Step.{seen, step, step-cases, step-length}

@@ -22,7 +22,7 @@ use Rattle.model.specs.Names.{aBroker}
 use Rattle.facts.specs.Posted.{writes}
 use Rattle.facts.specs.Checks.{decided-status, verdict-kept, verdict-more}
 use Rattle.facts.specs.Status.{is-done}
-use Rattle.kept.specs.Cases.{by-cases, no}
+use Rattle.preserved.specs.Cases.{by-cases, no}
 use Rattle.reorder.specs.Agree.{Agree}
 use Rattle.reorder.specs.Inv.{Inv, broker-kind, itsBroker, not-same, totals}
 use Rattle.reorder.specs.SameView.{same-view}

@@ -31,9 +31,9 @@ use Rattle.model.specs.Sound.{sound}
 use Rattle.model.specs.SoundMeans.{means-sound}
 use Rattle.facts.specs.Found.{found-has, found-kind, found-member, found-none, sound-s1}
 use Rattle.facts.specs.Names.{by-id}
-use Rattle.kept.specs.Bytes.{length-bytes, rows-bytes}
-use Rattle.kept.specs.Cases.{by-cases, cond-no, cond-yes}
-use Rattle.kept.specs.Calls.{SoundBytes, uncalled}
+use Rattle.preserved.specs.Bytes.{length-bytes, rows-bytes}
+use Rattle.preserved.specs.Cases.{by-cases, cond-no, cond-yes}
+use Rattle.preserved.specs.Calls.{SoundBytes, uncalled}
 use Rattle.reorder.specs.Local.{Fine}
 use Rattle.reorder.specs.Run.{noteTo, on}
 use Rattle.reorder.specs.Sim.{Fines, final, trace}

@@ -22,7 +22,7 @@ use Rattle.model.specs.Names.{aBroker, aTrade}
 use Rattle.model.specs.Rows.{found, is, mostRecords, nothing, sameRow}
 use Rattle.model.specs.Sound.{sound}
 use Rattle.facts.specs.Rows.{row-itself, same-rows}
-use Rattle.kept.specs.Cases.{by-cases, one-bit}
+use Rattle.preserved.specs.Cases.{by-cases, one-bit}
 use Rattle.reorder.specs.Agree.{Agree, total-agree}
 use Rattle.reorder.specs.Broker.{Field, gain, run-value}
 use Rattle.reorder.specs.Inv.{Inv, apart, inv-step, namelessNote}

@@ -16,7 +16,7 @@ use Rattle.model.specs.Call.{Reply, aResult, lengthsOf}
 use Rattle.model.specs.Names.{aTrade}
 use Rattle.model.specs.Rows.{found, nothing, recordSize, rows, sameRow}
 use Rattle.model.specs.Status.{number}
-use Rattle.kept.specs.Cases.{by-cases, cond-no, cond-yes}
+use Rattle.preserved.specs.Cases.{by-cases, cond-no, cond-yes}
 use Rattle.reorder.specs.OnBytes.{At, ending-rows, few-rows, fines, input, no-trade, reply-noted, said}
 use Rattle.reorder.specs.OnRows.{same-notes, same-rows-end}
 use Rattle.reorder.specs.Run.{noteTo}

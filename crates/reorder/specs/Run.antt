@@ -20,9 +20,9 @@ use Rattle.model.specs.Sound.{sound}
 use Rattle.facts.specs.Rows.{row-itself, same-rows}
 use Rattle.facts.specs.Names.{by-party}
 use Rattle.facts.specs.Found.{found-live, found-member}
-use Rattle.kept.specs.Cases.{by-cases, no}
-use Rattle.kept.specs.ResultBase.{free-nothing}
-use Rattle.kept.specs.Once.{key-once}
+use Rattle.preserved.specs.Cases.{by-cases, no}
+use Rattle.preserved.specs.ResultBase.{free-nothing}
+use Rattle.preserved.specs.Once.{key-once}
 use Rattle.reorder.specs.Inv.{Inv, inv-step, nameless, namelessNote}
 use Rattle.reorder.specs.Sim.{final, trace}
 use Rattle.reorder.specs.Step.{Note, step, step-length}

@@ -26,9 +26,9 @@ use Rattle.model.specs.Sound.{lotOf, ratesOf, short, sound}
 use Rattle.facts.specs.Rows.{row-itself, same-rows}
 use Rattle.facts.specs.Names.{by-holder, by-id, by-party}
 use Rattle.facts.specs.Keys.{key-kind}
-use Rattle.kept.specs.Looks.{rates-alike}
-use Rattle.kept.specs.Once.{band-once, key-once, means-band}
-use Rattle.kept.specs.Cases.{no}
+use Rattle.preserved.specs.Looks.{rates-alike}
+use Rattle.preserved.specs.Once.{band-once, key-once, means-band}
+use Rattle.preserved.specs.Cases.{no}
 use Rattle.reorder.specs.Agree.{Agree, the-agree, total-agree}
 use Rattle.reorder.specs.Earlier.{before-both, before-total, before-trans}
 use Rattle.reorder.specs.Sorted.{sort-agree}

@@ -5,7 +5,7 @@ use mathlib.Core.Path.{_≡_, refl, sym, _∙_, subst}
 use mathlib.Core.Bool.{Bool, true, false}
 use mathlib.Core.List.{List, [], _∷_, nil≢cons, cons≢nil, head-eq-of-cons-eq, tail-eq-of-cons-eq}
 use Rattle.laws.specs.Search.{keep}
-use Rattle.kept.specs.Cases.{by-cases, cond-no, cond-yes}
+use Rattle.preserved.specs.Cases.{by-cases, cond-no, cond-yes}
 
 module _ {S R O : Type 0} (step : S → R → O × S) where
   -- what a run answers, one by one, and where it ends

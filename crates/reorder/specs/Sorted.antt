@@ -5,7 +5,7 @@ use mathlib.Core.List.{List, [], _∷_, List·Memᴰ}
 use Rattle.laws.specs.Search.{keep}
 use Rattle.laws.specs.Sort.{insert, sort}
 use Rattle.reorder.specs.Agree.{Agree, gathered, gathered-agree}
-use Rattle.kept.specs.Cases.{by-cases, cond-no, cond-yes, no}
+use Rattle.preserved.specs.Cases.{by-cases, cond-no, cond-yes, no}
 
 module _ {A : Type 0} (before : A → A → Bool) (tot : (x y : A) → before x y ≡ false → before y x ≡ true)
     (trans : (x y z : A) → before x y ≡ true → before y z ≡ true → before x z ≡ true) where

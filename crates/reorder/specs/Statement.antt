@@ -18,7 +18,7 @@ use Rattle.model.specs.Call.{Promise, Reply, aResult, lengthsOf, resultCall}
 use Rattle.model.specs.Names.{aTrade}
 use Rattle.model.specs.Rows.{found, rows, sameRow}
 use Rattle.model.specs.Status.{number}
-use Rattle.kept.specs.Calls.{SoundBytes}
+use Rattle.preserved.specs.Calls.{SoundBytes}
 
 -- an order of n things is a list of their places: each place below n once, and nothing else
 abbrev pub Order : ℕ → List ℕ → Type 0

@@ -35,10 +35,10 @@ use Rattle.facts.specs.Rows.{row-itself, same-rows}
 use Rattle.facts.specs.Names.{by-holder, by-id, by-party}
 use Rattle.facts.specs.Sound.{named-there, names-account, names-broker}
 use Rattle.facts.specs.Posted.{posted-puts, writes}
-use Rattle.kept.specs.Bytes.{puts-length}
-use Rattle.kept.specs.ResultBase.{Accepted, accepted-all, postingOf, refused-all, result-inside}
-use Rattle.kept.specs.ResultSound.{result-sound}
-use Rattle.kept.specs.Cases.{by-cases}
+use Rattle.preserved.specs.Bytes.{puts-length}
+use Rattle.preserved.specs.ResultBase.{Accepted, accepted-all, postingOf, refused-all, result-inside}
+use Rattle.preserved.specs.ResultSound.{result-sound}
+use Rattle.preserved.specs.Cases.{by-cases}
 use Rattle.reorder.specs.Writes.{Seen}
 
 -- what is noted of a step: the answer, and the broker and its commission where it is done

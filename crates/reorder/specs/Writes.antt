@@ -22,8 +22,8 @@ use Rattle.model.specs.Result.{tradeAfter}
 use Rattle.model.specs.Rows.{hasKey, is, nothing}
 use Rattle.facts.specs.Lots.{all-closings}
 use Rattle.facts.specs.Posted.{adds, frees, writes}
-use Rattle.kept.specs.ResultEach.{Each, cashOf, each-added, each-changed, each-freed, historyOf, lotOpened}
-use Rattle.kept.specs.ResultEach.{settlementOf, summaryOpened}
+use Rattle.preserved.specs.ResultEach.{Each, cashOf, each-added, each-changed, each-freed, historyOf, lotOpened}
+use Rattle.preserved.specs.ResultEach.{settlementOf, summaryOpened}
 use Rattle.reorder.specs.Whose.{byParty, byTrade, whose, whose-history, whose-party, whose-trade}
 
 -- the account of the trade i, where this is its row

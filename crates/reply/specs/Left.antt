@@ -16,7 +16,7 @@ use Rattle.model.specs.Plan.{Outcome, accepted, refused}
 use Rattle.model.specs.Rows.{bytes, mostRecords, recordSize, rows, wholeRecords}
 use Rattle.model.specs.RowsLaws.{bytes-rows}
 use Rattle.model.specs.declared.Status.{Status}
-use Rattle.shelf.specs.Rows.{putAt, putAt-in}
+use Rattle.places.specs.Rows.{putAt, putAt-in}
 
 unfoldable pub bookLeft : Outcome → List ℕ → List ℕ
 bookLeft o b = either (isDone (o .status)) (bytes (o .rows)) b

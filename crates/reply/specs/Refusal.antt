@@ -18,7 +18,7 @@ use Rattle.model.specs.Status.{isDone, number}
 use Rattle.model.specs.Call.{either, refusalArea}
 use Rattle.model.specs.Edit.{_≔_, bits32, new}
 use Rattle.model.specs.declared.Status.{Status}
-use Rattle.shelf.specs.Rows.{putAt, putAt-in}
+use Rattle.places.specs.Rows.{putAt, putAt-in}
 
 -- the row that has the status and nothing else
 unfoldable pub refusal : Status → Row

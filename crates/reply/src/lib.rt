@@ -10,10 +10,10 @@ ghost use Rattle.model.specs.Plan.{also};
 ghost use Rattle.reply.specs.Refusal.{refusal};
 use directory::totals::Totals;
 use model::Status;
+use places::place::nothing;
+use places::put::put;
 use record::bytes::bits32;
 use record::row::Row;
-use shelf::place::nothing;
-use shelf::put::put;
 
 // How an inner call ends: its status, and the totals of the book that it leaves.
 pub struct Ended {

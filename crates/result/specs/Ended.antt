@@ -22,7 +22,7 @@ use Rattle.model.specs.Status.{isDone}
 use Rattle.model.specs.declared.Status.{Status}
 use Rattle.facts.specs.Checks.{decided-done, decided-refused}
 use Rattle.facts.specs.Status.{is-done}
-use Rattle.shelf.specs.Rows.{putAt}
+use Rattle.places.specs.Rows.{putAt}
 use Rattle.reply.specs.Left.{answerLeft, bookLeft, left-accepted, left-refused}
 use Rattle.directory.specs.Directory.{Directory}
 use Rattle.directory.specs.declared.totals.Totals.{Totals}

@@ -37,7 +37,7 @@ use Rattle.facts.specs.Keys.{of-live}
 use Rattle.facts.specs.Posted.{frees}
 use Rattle.facts.specs.Result.{Read, reads, writes}
 use Rattle.facts.specs.Sound.{named-there, names-account, names-broker}
-use Rattle.shelf.specs.Rows.{rowAt}
+use Rattle.places.specs.Rows.{rowAt}
 use Rattle.verdict.specs.declared.figures.Figures.{Figures}
 use Rattle.verdict.specs.declared.terms.Terms.{Terms}
 use Rattle.verdict.specs.Figures.{figuresBy, figuresOf, walkOf}

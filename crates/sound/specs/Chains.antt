@@ -19,7 +19,7 @@ use Rattle.rules.specs.Rules.{fits, no-kind}
 use Rattle.model.specs.Rows.{is, mostRecords, nothing, rows}
 use Rattle.model.specs.Sound.{each, s1, s2, sound}
 use Rattle.facts.specs.Rows.{length-rows}
-use Rattle.shelf.specs.Rows.{rowAt}
+use Rattle.places.specs.Rows.{rowAt}
 use Rattle.sound.specs.Distinct.{lastAt, unique-last}
 use Rattle.sound.specs.Hung.{firstWell, hung, hungWell, rowWell}
 use Rattle.clauses.specs.Hung.{hangs}

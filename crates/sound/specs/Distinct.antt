@@ -21,7 +21,7 @@ use Rattle.record.specs.declared.row.Row.{Row}
 use Rattle.model.specs.Rows.{hasKey, is, nothing, rows}
 use Rattle.model.specs.Sound.{alone, s2}
 use Rattle.facts.specs.Rows.{length-rows}
-use Rattle.shelf.specs.Rows.{rowAt}
+use Rattle.places.specs.Rows.{rowAt}
 use Rattle.laws.specs.Place.{seek-suc, some-place}
 
 -- the key of a row stands nowhere in a list

@@ -17,7 +17,7 @@ use Rattle.rules.specs.Rules.{fits}
 use Rattle.model.specs.Rows.{is, nothing, rows}
 use Rattle.model.specs.Sound.{each, s1, s2, sound}
 use Rattle.facts.specs.Rows.{length-rows}
-use Rattle.shelf.specs.Rows.{rowAt}
+use Rattle.places.specs.Rows.{rowAt}
 use Rattle.facts.specs.Names.{of-five}
 use Rattle.chains.specs.Group.{apart}
 use Rattle.sound.specs.Chains.{ByKind, Going, go-all, go-more, sound-fits, sound-hung, sound-last, kindHeads}

@@ -32,7 +32,7 @@ use Rattle.model.specs.Sound.{s1, s2}
 use Rattle.facts.specs.Rows.{length-rows}
 use Rattle.facts.specs.Found.{own-number}
 use Rattle.facts.specs.Names.{by-id, by-status, history-twin, idKinds, of-five, ofId}
-use Rattle.shelf.specs.Rows.{rowAt}
+use Rattle.places.specs.Rows.{rowAt}
 use Rattle.clauses.specs.Hung.{hangs, hungKinds, noOffset, offset, offset-as, offsets}
 use Rattle.sound.specs.Distinct.{last-none, unique-last}
 use Rattle.sound.specs.Hung.{home, hung, slot}

@@ -24,7 +24,7 @@ use Rattle.model.specs.Names.{aSecurity, aTrade}
 use Rattle.model.specs.Rows.{hasKey, is, nothing, rows}
 use Rattle.facts.specs.Names.{by-id, by-symbol}
 use Rattle.facts.specs.Rows.{length-rows}
-use Rattle.shelf.specs.Rows.{rowAt}
+use Rattle.places.specs.Rows.{rowAt}
 use Rattle.sound.specs.Kinds.{KindFits}
 
 security-spelt : (r : Row) → fits r ≡ true → r .kind ≡ kindSecurity → symbolOk (r .symbol) ≡ true

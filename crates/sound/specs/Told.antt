@@ -18,7 +18,7 @@ use Rattle.model.specs.Names.{aSecurity, anAccount, named}
 use Rattle.model.specs.Rows.{hasKey, nothing, rows, there}
 use Rattle.model.specs.Sound.{s1}
 use Rattle.facts.specs.Rows.{length-rows}
-use Rattle.shelf.specs.Rows.{rowAt}
+use Rattle.places.specs.Rows.{rowAt}
 use Rattle.chains.specs.Chains.{half}
 use Rattle.directory.specs.Found.{key-there}
 use Rattle.directory.specs.Listed.{Listed, key-grouped, own-group, own-key, probe-next, probe-none}

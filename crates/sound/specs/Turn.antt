@@ -20,7 +20,7 @@ use Rattle.model.specs.Rows.{found, hasKey, mostRecords, rows, there}
 use Rattle.model.specs.Sound.{sound}
 use Rattle.facts.specs.Rows.{length-rows}
 use Rattle.facts.specs.Names.{of-five, other-kind}
-use Rattle.shelf.specs.Rows.{rowAt}
+use Rattle.places.specs.Rows.{rowAt}
 use Rattle.directory.specs.Found.{key-row, key-there}
 use Rattle.clauses.specs.Hung.{fitsTrade, hangs, hungKinds, offset}
 use Rattle.sound.specs.ByRow.{rule-kept, rule-lost}

@@ -8,9 +8,9 @@ ghost use Rattle.sound.specs.Chains.{ByKind, NoChains, kindHeads};
 ghost use Rattle.sound.specs.Says.{Says};
 use chains::chain::narrow;
 use clauses::hung::index;
+use places::place::row_at;
 use record::codes::Kind;
 use record::row::Grid;
-use shelf::place::row_at;
 
 // The first place of each kind, and then, for each place, the next of its kind. The number of records stands for none.
 pub struct Links {}

@@ -8,7 +8,7 @@ ghost use Rattle.record.specs.Codes.{kindTrade};
 ghost use Rattle.rules.specs.Key.{among};
 ghost use Rattle.model.specs.Rows.{places, rows};
 ghost use Rattle.model.specs.Sound.{s1, s2, sound};
-ghost use Rattle.shelf.specs.Rows.{rowAt};
+ghost use Rattle.places.specs.Rows.{rowAt};
 ghost use Rattle.directory.specs.Listed.{Listed};
 ghost use Rattle.clauses.specs.Hung.{hangs, hungKinds};
 ghost use Rattle.sound.specs.Chains.{ByKind};
@@ -26,12 +26,12 @@ use directory::typed::trade;
 use fields::fits_beside;
 use kinds::rows::Trade;
 use kinds::units::TradeNo;
+use places::place::part;
+use places::place::row_at;
 use record::codes::Kind;
 use record::codes::TradeStatus;
 use record::codes::TradeType;
 use record::row::Grid;
-use shelf::place::part;
-use shelf::place::row_at;
 
 // Eight marks for each place: a trade's are those of its request (0), its histories (their status), its lot (5), its
 // settlement (6) and its cash (7).

@@ -8,7 +8,7 @@ ghost use Rattle.rules.specs.Rules.{fits};
 ghost use Rattle.rules.specs.Key.{among};
 ghost use Rattle.model.specs.Rows.{places, rows};
 ghost use Rattle.model.specs.Sound.{s1, sound};
-ghost use Rattle.shelf.specs.Rows.{rowAt};
+ghost use Rattle.places.specs.Rows.{rowAt};
 ghost use Rattle.directory.specs.Listed.{Listed};
 ghost use Rattle.clauses.specs.Hung.{hangs, hungKinds};
 ghost use Rattle.clauses.specs.Own.{ownWell};
@@ -27,10 +27,10 @@ use directory::typed::security;
 use fields::fits;
 use fields::fits_beside;
 use kinds::rows::Trade;
+use places::place::part;
+use places::place::row_at;
 use record::codes::Kind;
 use record::row::Grid;
-use shelf::place::part;
-use shelf::place::row_at;
 
 // S1 of the record at a place, by its own bytes.
 fn fit_at(book: &[u8], i: usize) -> bool

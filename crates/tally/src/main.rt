@@ -22,7 +22,7 @@ fn answer(book: &[u8], page: &mut [u8]) -> usize
     ensures { λ r. ⌜ take r (now (page .exit)) ≡ answer (now (book .entry)) ⌝ }
 {
     match sound::whole::status(book, MOST_RECORDS) {
-        Status::Done => put_square(page, square::tally(book)),
+        Status::Done => put_square(page, counts::tally(book)),
         Status::Unsound => put(page, 0, b"refused -102\n"),
         _ => put(page, 0, b"refused -101\n"),
     }

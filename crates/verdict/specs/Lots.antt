@@ -14,7 +14,7 @@ use Rattle.model.specs.Names.{aSummary}
 use Rattle.model.specs.Result.{view}
 use Rattle.model.specs.Rows.{found, is, rows}
 use Rattle.model.specs.Sound.{sound}
-use Rattle.shelf.specs.Rows.{rowAt}
+use Rattle.places.specs.Rows.{rowAt}
 use Rattle.directory.specs.Listed.{places}
 use Rattle.closing.specs.Closing.{Gathered, closed-lot, soughtOf}
 use Rattle.closing.specs.Walked.{are-lots}

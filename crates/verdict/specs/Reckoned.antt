@@ -23,7 +23,7 @@ use Rattle.model.specs.Sound.{s1, sound}
 use Rattle.facts.specs.Found.{sound-s1}
 use Rattle.facts.specs.Most.{price-fits, shares-near}
 use Rattle.facts.specs.Rows.{few-rows, length-rows}
-use Rattle.shelf.specs.Rows.{rowAt}
+use Rattle.places.specs.Rows.{rowAt}
 use Rattle.directory.specs.Listed.{places}
 use Rattle.money.specs.Amounts.{UpTo, up-to, valueMost}
 use Rattle.walk.specs.Walk.{Within, begun, need-held, through, walked}

@@ -30,7 +30,7 @@ use Rattle.model.specs.Result.{view}
 use Rattle.model.specs.Rows.{found, hasKey, is, rows, there}
 use Rattle.model.specs.Sound.{ratesOf}
 use Rattle.facts.specs.Found.{found-kind, found-none}
-use Rattle.shelf.specs.Rows.{rowAt}
+use Rattle.places.specs.Rows.{rowAt}
 use Rattle.directory.specs.Found.{key-row, key-there}
 use Rattle.directory.specs.Listed.{places}
 use Rattle.verdict.specs.declared.terms.Places.{Places}

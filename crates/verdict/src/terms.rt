@@ -8,7 +8,7 @@ ghost use Rattle.model.specs.Band.{bandRate};
 ghost use Rattle.model.specs.Names.{aCustomer, aSecurity};
 ghost use Rattle.model.specs.Rows.{found, rows};
 ghost use Rattle.model.specs.Sound.{sound};
-ghost use Rattle.shelf.specs.Rows.{rowAt};
+ghost use Rattle.places.specs.Rows.{rowAt};
 ghost use Rattle.directory.specs.Listed.{Listed};
 ghost use Rattle.verdict.specs.Terms.{inputRow, placesOf, termsOf};
 use directory::build::places;
@@ -26,8 +26,8 @@ use kinds::units::CustomerNo;
 use kinds::units::PerHundredThousand;
 use kinds::units::PerTenThousand;
 use kinds::units::TradeNo;
+use places::place::record_at;
 use record::symbol::Symbol;
-use shelf::place::record_at;
 
 // Where the rows of a result stand, but for its lots; the number of places where there is none.
 pub struct Places {

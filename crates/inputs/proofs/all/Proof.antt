@@ -5,7 +5,7 @@ use borrow.Author.Needs.{needs}
 use Rattle.laws.specs.Search.{every}
 use Rattle.rules.specs.Rules.{obeys, shapeOf}
 use Rattle.model.specs.Rows.{rows}
-use Rattle.shelf.specs.Loop.{Checked, loops}
+use Rattle.places.specs.Loop.{Checked, loops}
 use Rattle.inputs.proofs.all.Statement.{statement}
 use Rattle.inputs.proofs.all.Tie as tie
 

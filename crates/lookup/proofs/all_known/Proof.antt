@@ -6,7 +6,7 @@ use Rattle.model.specs.Names.{aTrade}
 use Rattle.model.specs.Rows.{rows, there}
 use Rattle.lookup.specs.Fill.{allKnown}
 use borrow.Author.Needs.{needs}
-use Rattle.shelf.specs.Loop.{Checked, check-fails, check-more, loops}
+use Rattle.places.specs.Loop.{Checked, check-fails, check-more, loops}
 use Rattle.lookup.proofs.all_known.Statement.{statement}
 use Rattle.lookup.proofs.all_known.Tie as tie
 

@@ -2,7 +2,7 @@
 use mathlib.Core.Path.{_∙_, ap}
 use lib.ListN.{length}
 use Rattle.directory.specs.Found.{key-row}
-use Rattle.shelf.specs.Rows.{length-putAt}
+use Rattle.places.specs.Rows.{length-putAt}
 use borrow.Author.Needs.{needs}
 use Rattle.lookup.proofs.answer_one.Statement.{statement}
 use Rattle.lookup.proofs.answer_one.Tie as tie

@@ -13,7 +13,7 @@ use std::hint::black_box;
 use std::time::{Duration, Instant};
 
 extern "C" {
-    /// The status of a book, of crates/gauge: C passes a slice as a pointer and a length.
+    /// The status of a book, of crates/book_status: C passes a slice as a pointer and a length.
     fn book_status(book: *const u8, length: usize) -> i32;
 }
 

@@ -6,7 +6,7 @@ use Prim.Native.Nat.{_-_}
 use native.Mathlib.Omega.{arith}
 use lib.ListN.{length}
 use Rattle.model.specs.Rows.{rows}
-use Rattle.shelf.specs.Rows.{rowAt}
+use Rattle.places.specs.Rows.{rowAt}
 use Rattle.directory.specs.Directory.{Directory}
 use Rattle.directory.specs.Listed.{places}
 use Rattle.feed.specs.Sweep.{Sweeping, asks, in-book, leaves, past-book, sweep-end, sweep-less, sweep-more}

@@ -3,7 +3,7 @@
 use mathlib.Core.Path.{refl}
 use borrow.Author.Tests.{eqb-true}
 use Rattle.record.specs.Codes.{kindRequest}
-use Rattle.shelf.specs.Rows.{rowAt}
+use Rattle.places.specs.Rows.{rowAt}
 use Rattle.directory.specs.Kept.{no-number}
 use Rattle.feed.specs.Submit.{not-free}
 use Rattle.feed.specs.Sweep.{goes, stays}

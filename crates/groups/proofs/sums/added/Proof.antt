@@ -5,7 +5,7 @@ use native.Mathlib.Omega.{arith}
 use denote.Ref.{now}
 use Rattle.kinds.specs.Kinds.{lotOf}
 use Rattle.kinds.specs.declared.units.Shares.{Shares}
-use Rattle.shelf.specs.Rows.{rowAt}
+use Rattle.places.specs.Rows.{rowAt}
 use Rattle.groups.specs.Sums.{adds-long, adds-none, adds-owed, adds-size, bit-no, bit-yes, kind-byte}
 use Rattle.groups.specs.Sums.{lot-amount, lot-told}
 use borrow.Author.Needs.{needs}

@@ -3,7 +3,7 @@
 use Prim.Native.Nat.{_-_}
 use Rattle.model.specs.Names.{aSecurity}
 use Rattle.model.specs.Rows.{rows, there}
-use Rattle.shelf.specs.Loop.{Checked}
+use Rattle.places.specs.Loop.{Checked}
 use Rattle.hits.specs.Judge.{allKnown, each}
 use Rattle.hits.proofs.judge.all_known.Statement.{statement}
 use Rattle.hits.proofs.judge.all_known.Tie as tie

@@ -1,6 +1,6 @@
 -- The entry hits the request, and none before it does. Assumes nothing.
 use Rattle.model.specs.Rows.{rows}
-use Rattle.shelf.specs.Rows.{rowAt}
+use Rattle.places.specs.Rows.{rowAt}
 use Rattle.hits.specs.Hits.{first-hit, no-hit}
 use borrow.Author.Needs.{needs}
 use Rattle.hits.proofs.judge.first_hit.Statement.{statement}

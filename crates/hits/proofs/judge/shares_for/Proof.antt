@@ -7,7 +7,7 @@ use Rattle.hits.proofs.judge.shares_for.Statement.{statement}
 use Rattle.hits.proofs.judge.shares_for.Tie as tie
 use Rattle.model.specs.Rows.{rows}
 use Rattle.facts.specs.Feed.{sharesFor}
-use Rattle.shelf.specs.Loop.{Summed, loops}
+use Rattle.places.specs.Loop.{Summed, loops}
 use Rattle.hits.specs.Judge.{few-inputs}
 use Rattle.record.specs.Symbol.{sameSymbol}
 

@@ -6,7 +6,7 @@ use borrow.Author.Needs.{needs}
 use Rattle.hits.proofs.judge.shares_in.Statement.{statement}
 use Rattle.hits.proofs.judge.shares_in.Tie as tie
 use Rattle.model.specs.Rows.{rows}
-use Rattle.shelf.specs.Loop.{Summed, loops}
+use Rattle.places.specs.Loop.{Summed, loops}
 use Rattle.hits.specs.Judge.{few-inputs, sharesIn}
 
 abbrev Inv-loop : tie.InvT-loop

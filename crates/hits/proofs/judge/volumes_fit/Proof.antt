@@ -3,7 +3,7 @@
 use Prim.Native.Nat.{_-_}
 use Rattle.laws.specs.Search.{every}
 use Rattle.model.specs.Rows.{rows}
-use Rattle.shelf.specs.Loop.{Checked}
+use Rattle.places.specs.Loop.{Checked}
 use Rattle.hits.specs.Judge.{each, volumeFits}
 use Rattle.hits.proofs.judge.volumes_fit.Statement.{statement}
 use Rattle.hits.proofs.judge.volumes_fit.Tie as tie
