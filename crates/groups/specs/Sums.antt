@@ -3,11 +3,11 @@
 use mathlib.Core.Path.{_≡_, refl, sym, ap, _∙_}
 use mathlib.Core.Bool.{Bool, true, false, cond, _&&_}
 use mathlib.Core.List.{List}
-use Prim.Native.Nat.{ℕ, _+_, _*_, _/_, _≤_, _<_}
+use Prim.Native.Nat.{ℕ, _+_, _*_, _≤_, _<_}
 use native.Mathlib.Omega.{arith}
 use lib.Dec.{eqb, leb}
 use lib.IntN.{ℤ, pos, negsuc, natAbs, _+ℤ_, negℤ}
-use lib.ListN.{length, getD}
+use lib.ListN.{getD}
 use lib.Signed.{ltZ}
 use mir.Syntax.{w64}
 use mir.Val.{toZ}
@@ -179,7 +179,7 @@ module _ (rs : List Row) (customer : ℕ) (r : Row) {k : ℕ} {x : CustomerRate}
 
 -- ---- shares
 -- a signed number's distance from zero where it is on this side of it, and 0 on the other
-abbrev pub side : Bool → ℕ → ℕ
+abbrev side : Bool → ℕ → ℕ
 side true x = dn (toZ w64 x)
 side false x = up (toZ w64 x)
 
@@ -227,7 +227,7 @@ lot-most : (r : Row) → r .kind ≡ kindLot → fits r ≡ true → natAbs (toZ
 lot-most r k e = means-lot r .shows (as-kind kindLot r k ∙ e) .0 .1
 
 -- a lot's part in a holding of its account and symbol, and in any other
-pub lot-size : (account : ℕ) (symbol : Symbol) (r : Row) → fits r ≡ true → lotOf account symbol r ≡ true
+lot-size : (account : ℕ) (symbol : Symbol) (r : Row) → fits r ≡ true → lotOf account symbol r ≡ true
     → natAbs (toZ w64 (r .m1)) ≤ sharesMost
 lot-size account symbol r f here =
     let k = and-left (is kindLot r) (eqb (r .party) account)
@@ -287,10 +287,9 @@ abbrev pub member : Key → Row → Bool
 member k r = cond (eqb (k .kind) kindRequest) (requestOn (k .symbol) r) (lotOf (k .party) (k .symbol) r)
 
 -- every row of a book that keeps S1 fits
-pub fits-there : (b : List ℕ) (c : ℕ) {r : Row} → s1 (rows b) ≡ true → c < length b / 64 → r ≡ rowAt b c
-    → fits r ≡ true
+pub fits-there : (b : List ℕ) (c : ℕ) → s1 (rows b) ≡ true → c < places b → fits (rowAt b c) ≡ true
 unfolding s1
-fits-there b c e h q = rw q (every-at fits nothing (rows b) c e (rw length-rows h))
+fits-there b c e h = every-at fits nothing (rows b) c e (rw length-rows h)
 
 pub same-bit : {x : ℕ} {y z : Bool} → x ≡ bit y → y ≡ z → x ≡ bit z
 same-bit e h = e ∙ ap bit h

@@ -113,7 +113,7 @@ one-bit false = refl
 
 module _ (rs : List Row) (unique : s2 rs ≡ true) (k : Key) (named : k .kind ≡ kindFree → ⊥) where
   -- the one row of the key passes, too
-  pub once-and : (x : Row → Bool) → eqb (count (λ r. hasKey k r && x r) rs) 1 ≡ (there k rs && x (found k rs))
+  once-and : (x : Row → Bool) → eqb (count (λ r. hasKey k r && x r) rs) 1 ≡ (there k rs && x (found k rs))
   unfolding there found
   once-and x = go (there k rs) refl
     where

@@ -44,7 +44,7 @@ loop-holds c =
 added-requires : tie.Need-added-requires Inv-loop μ-loop
 added-requires c κs =
     let start = c .before .before .before .before .before .before in
-    (search needs, fits-there _ _ (start .pre .1) (search needs) refl)
+    (search needs, fits-there _ _ (start .pre .1) (search needs))
 
 plus-requires : tie.Need-plus-requires Inv-loop μ-loop
 plus-requires c κs =
