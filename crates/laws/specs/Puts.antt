@@ -173,7 +173,8 @@ module _ {A : Type 0} (same : A → A → Bool) (tells : (a b : A) → same a b 
 
   module _ (itself : (a : A) → same a a ≡ true) (ws : List (A × A)) (l : List A) (inside : Inside same ws l) where
     counted : (p : A → Bool)
-        → count p (puts same ws l) + count (λ (w : A × A). p (w .0)) ws ≡ count p l + count (λ (w : A × A). p (w .1)) ws
+        → count p (puts same ws l) + count (λ (w : A × A). p (w .0)) ws
+        ≡ count p l + count (λ (w : A × A). p (w .1)) ws
     counted p =
         let law = puts-count same tells itself p ws l inside in
         let a = count-map p (λ (w : A × A). w .0) ws in

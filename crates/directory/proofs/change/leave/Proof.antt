@@ -7,5 +7,6 @@ use Rattle.directory.proofs.change.leave.Tie as tie
 pub leave-spec : {M : Type 1} → statement M
 leave-spec =
     tie.close
-    (tie.spec (λ c κs. search needs) (λ c κs. search needs) (λ c κs. search needs) (λ c κs. search (needs, listed-rises))
-    (λ c κs. search needs) (λ c. search needs) (λ c. search (needs, leaves, bucket-of)))
+    (tie.spec (λ c κs. search needs) (λ c κs. search needs) (λ c κs. search needs)
+    (λ c κs. search (needs, listed-rises)) (λ c κs. search needs) (λ c. search needs)
+    (λ c. search (needs, leaves, bucket-of)))

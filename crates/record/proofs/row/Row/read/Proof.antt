@@ -21,4 +21,5 @@ read-spec =
     tie.close
     (tie.spec (λ c. search needs) (λ c. search needs) (λ c. search needs) (λ c. search needs) (λ c κs. search needs)
     (λ c κs. search needs) (λ c κs. search needs) (λ c κs. search needs) (λ c κs. search needs) (λ c κs. search needs)
-    (λ c κs. search needs) (λ c κs. search needs) (λ c κs. search needs) u32-at-requires-6 u32-at-requires-7 (λ c. cc))
+    (λ c κs. search needs) (λ c κs. search needs) (λ c κs. search needs) u32-at-requires-6 u32-at-requires-7
+    (λ c. cc))

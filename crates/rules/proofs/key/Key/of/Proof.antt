@@ -9,4 +9,6 @@ of-spec =
     tie.close
     (tie.spec (λ c κs. search needs) (λ c κs. search needs) (λ c κs. search needs) (λ c κs. search needs)
     (λ c κs. search needs) (λ c κs. search needs) (λ c κs. search needs) (λ c κs. search needs) (λ c κs. search needs)
-    (λ c. cc (marks-tell (c .before .before .before .before .before .before .before .before .before .before .args .row))))
+    (λ c.
+    let marks = c .before .before .before .before .before .before .before .before .before in
+    cc (marks-tell (marks .before .args .row))))
