@@ -26,7 +26,8 @@ Word = List (List ℕ) → (ℕ → List ℕ) → List ℕ → List ℕ → List
 
 abbrev pub ProgramBy : Word → Type 0
 ProgramBy Made =
-    (b : List ℕ) (list : List (List ℕ)) (area₁ area₂ : ℕ → List ℕ) (order₁ order₂ : List ℕ) (seen₁ seen₂ : List Seen)
+    (b : List ℕ) (list : List (List ℕ)) (area₁ area₂ : ℕ → List ℕ) (order₁ order₂ : List ℕ)
+    (seen₁ seen₂ : List Seen)
     → TwoOrders b list area₁ area₂ order₁ order₂
     → Made list area₁ b order₁ seen₁ → Made list area₂ b order₂ seen₂
     → UnhinderedRun seen₁ → UnhinderedRun seen₂
@@ -35,7 +36,8 @@ ProgramBy Made =
 pub same-program : ProgramBy Ran ↔ OfTheProgram
 same-program = (
   λ p b list area₁ area₂ order₁ order₂ seen₁ seen₂ t.
-      p b list area₁ area₂ order₁ order₂ seen₁ seen₂ (t .orders) (t .ran₁) (t .ran₂) (t .unhindered₁) (t .unhindered₂),
+      p b list area₁ area₂ order₁ order₂ seen₁ seen₂
+      (t .orders) (t .ran₁) (t .ran₂) (t .unhindered₁) (t .unhindered₂),
   λ p b list area₁ area₂ order₁ order₂ seen₁ seen₂ o r s u v.
       p b list area₁ area₂ order₁ order₂ seen₁ seen₂
       (record { orders = o; ran₁ = r; ran₂ = s; unhindered₁ = u; unhindered₂ = v }),

@@ -27,7 +27,8 @@ use Rattle.facts.specs.Keys.{OfKind, key-kind, key-of}
 use Rattle.facts.specs.Names.{by-id, by-symbol}
 use Rattle.facts.specs.Rows.{found-other, found-same, keep-put, there-alike, there-other}
 
-found-other-kind : (k : Key) (rs : List Row) (j : ℕ) → (j ≡ k .kind → ⊥) → (j ≡ kindFree → ⊥) → found k rs .kind ≡ j → ⊥
+found-other-kind : (k : Key) (rs : List Row) (j : ℕ) → (j ≡ k .kind → ⊥) → (j ≡ kindFree → ⊥)
+    → found k rs .kind ≡ j → ⊥
 found-other-kind k rs j n f e =
     ⊎-elim
     (λ h. n (sym e ∙ key-kind k (found k rs) h))
@@ -121,10 +122,12 @@ module _ (e : Row) (rs : List Row) (r : Row) where
   gone : pends (submit e rs r) (r .id) ≡ false
   gone = go (there (aTrade (r .id)) (between rs (e .time) (r .id))) refl
     where
-      go : (t : Bool) → there (aTrade (r .id)) (between rs (e .time) (r .id)) ≡ t → pends (submit e rs r) (r .id) ≡ false
+      go : (t : Bool) → there (aTrade (r .id)) (between rs (e .time) (r .id)) ≡ t
+          → pends (submit e rs r) (r .id) ≡ false
       go true h =
           ap (λ (x : Row). eqb (x .status) pending)
-          (found-same tradeWas becomes (between rs (e .time) (r .id)) (aTrade (r .id)) h (sym (found-between rs (e .time) (r .id) (r .id)))
+          (found-same tradeWas becomes (between rs (e .time) (r .id)) (aTrade (r .id)) h
+          (sym (found-between rs (e .time) (r .id) (r .id)))
           (same-trade (r .id) ∙ ap (hasKey (aTrade (r .id))) (sym (found-between rs (e .time) (r .id) (r .id)))
           ∙ found-has (aTrade (r .id)) (between rs (e .time) (r .id)) h))
       go false h =
@@ -140,7 +143,9 @@ module _ (e : Row) (rs : List Row) (r : Row) where
           ap (pends (submit e rs r)) (sym (eqb-true (r .id) i h)) ∙ gone ∙ rw h (sym (and-false (pends rs i)))
       go false h =
           ap (λ (x : Row). eqb (x .status) pending)
-          (found-other tradeWas becomes (between rs (e .time) (r .id)) (aTrade i) (other-trade i h) (same-trade i ∙ other-trade i h) ∙ found-between rs (e .time) (r .id) i)
+          (found-other tradeWas becomes (between rs (e .time) (r .id)) (aTrade i) (other-trade i h)
+          (same-trade i ∙ other-trade i h)
+          ∙ found-between rs (e .time) (r .id) i)
           ∙ rw h (sym (and-true (pends rs i)))
 
 -- ---- all that an entry submits
@@ -166,7 +171,8 @@ module _ (f : Fed) (e : Row) where
   abbrev afterTraded : List Row
   afterTraded = put sameRow securityWas (traded e securityWas) (f .rows)
 
-  securities-kept : (s : Symbol) → keep (hasKey (aSecurity s)) (applied f e .rows) ≡ keep (hasKey (aSecurity s)) afterTraded
+  securities-kept : (s : Symbol)
+      → keep (hasKey (aSecurity s)) (applied f e .rows) ≡ keep (hasKey (aSecurity s)) afterTraded
   unfolding applied
   securities-kept s =
       submits-keep kindSecurity (hasKey (aSecurity s)) (key-of (aSecurity s)) (λ q. omega arith) e (λ q. omega arith)
@@ -205,7 +211,8 @@ module _ (f : Fed) (e : Row) where
           (same-security s ∙ ap (hasKey (aSecurity s)) o ∙ found-has (aSecurity s) (f .rows) h)
 
       go : (t : Bool) → sameSymbol (e .symbol) s ≡ t
-          → found (aSecurity s) afterTraded .m1 ≡ found (aSecurity s) (f .rows) .m1 + cond (sameSymbol (e .symbol) s) (e .n2) 0
+          → found (aSecurity s) afterTraded .m1
+          ≡ found (aSecurity s) (f .rows) .m1 + cond (sameSymbol (e .symbol) s) (e .n2) 0
       go true q =
           let y = same-symbol (e .symbol) s q in
           ap (λ (r : Row). r .m1) (here y)
@@ -213,7 +220,8 @@ module _ (f : Fed) (e : Row) where
           ∙ rw q
       go false q =
           ap (λ (r : Row). r .m1)
-          (found-other securityWas (traded e securityWas) (f .rows) (aSecurity s) (other-security s q) (same-security s ∙ other-security s q))
+          (found-other securityWas (traded e securityWas) (f .rows) (aSecurity s) (other-security s q)
+          (same-security s ∙ other-security s q))
           ∙ rw q (sym (add-zero (found (aSecurity s) (f .rows) .m1)))
 
 -- ---- all of them
@@ -224,7 +232,9 @@ volume-after s f [] h = sym (add-zero (found (aSecurity s) (f .rows) .m1))
 volume-after s f (e ∷ es) h =
     let more = volume-after s (applied f e) es (there-next f e s ∙ h) in
     let one = volume-next f e s h in
-    more ∙ rw one (add-assoc (found (aSecurity s) (f .rows) .m1) (cond (sameSymbol (e .symbol) s) (e .n2) 0) (sharesFor s es))
+    more
+    ∙ rw one
+    (add-assoc (found (aSecurity s) (f .rows) .m1) (cond (sameSymbol (e .symbol) s) (e .n2) 0) (sharesFor s es))
 
 pub volumes-fit : (f : Fed) (es : List Row) → every (λ (e : Row). there (aSecurity (e .symbol)) (f .rows)) es ≡ true
     → volumesFit (run applied f es .rows) es

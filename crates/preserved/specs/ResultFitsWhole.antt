@@ -42,7 +42,8 @@ module _ (rs : List Row) (input : Row) (good : sound rs ≡ true) (right : resul
   unfolding figures
   commission-most =
       let v = view rs input in
-      commission-in-range (v .rate) (v .trade .n1) (input .n1) (rate-near rs input good) (shares-near rs input good) (price-fits input right)
+      commission-in-range (v .rate) (v .trade .n1) (input .n1) (rate-near rs input good) (shares-near rs input good)
+      (price-fits input right)
 
   tax-most : figures input (view rs input) .tax ≤ fee .high
   unfolding figures

@@ -152,4 +152,5 @@ abbrev pub OfTheProgram : Type 0
 OfTheProgram =
     (book : List ℕ) (list : List (List ℕ)) (area₁ area₂ : ℕ → List ℕ) (order₁ order₂ : List ℕ)
     (seen₁ seen₂ : List Seen)
-    → TwoRan book list area₁ area₂ order₁ order₂ seen₁ seen₂ → SameSeen book list area₁ area₂ order₁ order₂ seen₁ seen₂
+    → TwoRan book list area₁ area₂ order₁ order₂ seen₁ seen₂
+    → SameSeen book list area₁ area₂ order₁ order₂ seen₁ seen₂

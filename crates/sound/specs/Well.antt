@@ -38,7 +38,8 @@ use Rattle.sound.specs.Once.{found-none, once, agrees-is}
 use Rattle.sound.specs.RowRules.{lot-history-row, row-both, row-kind, row-names}
 use Rattle.clauses.specs.Rules.{asAsked, names-none, names-one, names-three, names-two}
 
-and-five : (a b c d e : Bool) → a ≡ true → b ≡ true → c ≡ true → d ≡ true → e ≡ true → (a && b && c && d && e) ≡ true
+and-five : (a b c d e : Bool) → a ≡ true → b ≡ true → c ≡ true → d ≡ true → e ≡ true
+    → (a && b && c && d && e) ≡ true
 and-five a b c d e p q r s t = rw (p, q, r, s, t)
 
 five : (a b c d e : Bool) → (a && b && c && d && e) ≡ true
@@ -565,15 +566,16 @@ module _ (rs : List Row) (r : Row) where
   own-lot-history e = own-rule kindLotHistory rs r e ∙ lot-history-row rs r e refl
 
 -- ---- what holds at each kind holds at every kind
-kind-step : (P : ℕ → Type 0) (i : ℕ) → P i → ((k : ℕ) → i + 1 ≤ k → k ≤ 16 → P k) → (k : ℕ) → i ≤ k → k ≤ 16 → P k
+kind-step : (P : ℕ → Type 0) (i : ℕ) → P i → ((k : ℕ) → i + 1 ≤ k → k ≤ 16 → P k)
+    → (k : ℕ) → i ≤ k → k ≤ 16 → P k
 kind-step P i p f k a b = go (eqb k i) refl
   where
     go : (t : Bool) → eqb k i ≡ t → P k
     go true e = subst P (sym (eqb-true k i e)) p
     go false e = let n = eqb-false k i e in f k (let m : (k ≡ i → ⊥) = n in omega arith) b
 
-by-kind : (P : ℕ → Type 0) → P 0 → P 1 → P 2 → P 3 → P 4 → P 5 → P 6 → P 7 → P 8 → P 9 → P 10 → P 11 → P 12 → P 13
-    → P 14 → P 15 → P 16 → (k : ℕ) → k ≤ 16 → P k
+by-kind : (P : ℕ → Type 0) → P 0 → P 1 → P 2 → P 3 → P 4 → P 5 → P 6 → P 7 → P 8
+    → P 9 → P 10 → P 11 → P 12 → P 13 → P 14 → P 15 → P 16 → (k : ℕ) → k ≤ 16 → P k
 by-kind P a b c d e f g h i j l m n o p q r k u =
     let s16 = kind-step P 16 r (λ x v w. absurd (omega arith)) in
     let s12 = kind-step P 12 n (kind-step P 13 o (kind-step P 14 p (kind-step P 15 q s16))) in

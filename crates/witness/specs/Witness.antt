@@ -35,8 +35,8 @@ use Rattle.reorder.specs.Statement.{replyTo}
 abbrev sent : ℕ → ℕ → ℕ → ℕ → List Row
 sent type account number shares =
     new (
-    kind ≔ kindTrade ∷ form ≔ type ∷ status ≔ submitted ∷ flags ≔ 1 ∷ party ≔ account ∷ id ≔ number ∷ symbol ≔ symbolNumber abc
-    ∷ n1 ≔ shares
+    kind ≔ kindTrade ∷ form ≔ type ∷ status ≔ submitted ∷ flags ≔ 1 ∷ party ≔ account ∷ id ≔ number
+    ∷ symbol ≔ symbolNumber abc ∷ n1 ≔ shares
     ∷ n2 ≔ 3_000 ∷ n4 ≔ 500 ∷ when ≔ 300 ∷ [])
     ∷ historyRow submitted number 300
     ∷ []
