@@ -6,7 +6,7 @@ use Prim.Native.Nat.{ℕ, _+_, _≤_, _<_}
 use native.Mathlib.Nat.{add-assoc}
 use native.Mathlib.Omega.{arith}
 use lib.Dec.{eqb, leb}
-use lib.ListN.{length, drop, getD, take, length-map, length-take}
+use lib.ListN.{length, drop, drop-of-length-le, getD, take, length-map, length-take}
 use borrow.Author.Tests.{leb-true}
 use Rattle.laws.specs.Keep.{every-alike, every-map, every-on, keep-every, run-map}
 use Rattle.laws.specs.Search.{every, keep, run, total}
@@ -39,14 +39,15 @@ abbrev first : List ℕ → Fed
 first b = record { rows = rows b; trades = 0 }
 
 -- ---- an entry
--- the entry numbered i may be applied
-pub record Entry (b d : List ℕ) (t : Totals) (input : List ℕ) (i : ℕ) : Type 0 where
+-- the entry numbered i may be applied; the feed submits at most so many trades
+pub record Entry (most : ℕ) (b d : List ℕ) (t : Totals) (input : List ℕ) (i : ℕ) : Type 0 where
   pub ready : Ready b d t
   pub inside : i < places input
   pub known : there (aSecurity (rowAt input i .symbol)) (rows b) ≡ true
   pub volume : found (aSecurity (rowAt input i .symbol)) (rows b) .m1 + rowAt input i .n2 ≤ volume .high
   pub going : Going (rows input) i (rows b)
   pub room : applied (first b) (rowAt input i) .trades ≤ t .free
+  pub few : applied (first b) (rowAt input i) .trades ≤ most
 
 -- it is applied
 pub record Applied (e : Row) (b : List ℕ) (t : Totals) (b′ d′ : List ℕ) (t′ : Totals) : Type 0 where
@@ -78,8 +79,8 @@ submits-there rs e =
     every-sort lower (λ (r : Row). there (aTrade (r .id)) rs) (keep (triggered rs e) rs)
     ∙ keep-every (triggered rs e) (λ (r : Row). there (aTrade (r .id)) rs) (waits-there rs e) rs
 
-module _ {b d : List ℕ} {t : Totals} {input : List ℕ} {i : ℕ} (s : Entry b d t input i) {e : FeedInput}
-    (a : e ≡ feedInputOf (rowAt input i))
+module _ {most : ℕ} {b d : List ℕ} {t : Totals} {input : List ℕ} {i : ℕ} (s : Entry most b d t input i)
+    {e : FeedInput} (a : e ≡ feedInputOf (rowAt input i))
   where
     pub entry-known : there (aSecurity (e .symbol)) (rows b) ≡ true
     unfolding feedInputOf
@@ -92,27 +93,37 @@ module _ {b d : List ℕ} {t : Totals} {input : List ℕ} {i : ℕ} (s : Entry b
         let v = s .volume in
         omega arith
 
-    -- after its security is changed
-    module _ {b₁ at : List ℕ} {n : ℕ} (q : rows b₁ ≡ quotedBy e (rows b)) (g : Gathered (rows input) i b₁ at n) where
-      abbrev rs : List Row
-      rs = after-quote (s .going)
+    abbrev rs : List Row
+    rs = after-quote (s .going)
 
+    trades : applied (first b) (rowAt input i) .trades ≡ 0 + length (submits rs (rowAt input i))
+    unfolding applied
+    trades = refl
+
+    -- after its security is changed
+    module _ (b₁ : List ℕ) (q : rows b₁ ≡ quotedBy e (rows b)) where
       is-rs : rows b₁ ≡ rs
       is-rs = q ∙ ap (λ (u : FeedInput). quotedBy u (rows b)) a ∙ quoted-is (rowAt input i) (rows b)
 
+      -- of a feed that submits nothing that is all
+      pub entry-quiet : most ≡ 0 → Ready b₁ d t → Applied (rowAt input i) b t b₁ d t
+      unfolding applied run
+      entry-quiet z r =
+          let k = trades in
+          let m = s .few in
+          let none : submits rs (rowAt input i) ≡ [] = drop-of-length-le (submits rs (rowAt input i)) {i = 0} (omega arith) in
+          record { rows = is-rs ∙ rw none; ready = r; room = omega arith }
+
+    module _ {b₁ at : List ℕ} {n : ℕ} (q : rows b₁ ≡ quotedBy e (rows b)) (g : Gathered (rows input) i b₁ at n) where
       are : map (rowAt b₁) (take n at) ≡ submits rs (rowAt input i)
       are =
-          g .rows ∙ ap (λ (l : List Row). sort lower (keep (fresh (rows input) i) l)) is-rs
+          g .rows ∙ ap (λ (l : List Row). sort lower (keep (fresh (rows input) i) l)) (is-rs b₁ q)
           ∙ fresh-submits (s .going)
 
       many : n ≤ length at → n ≡ length (submits rs (rowAt input i))
       many h =
           let l : length (map (rowAt b₁) (take n at)) ≡ n = simp (length-map, length-take) (omega arith) in
           sym l ∙ ap length are
-
-      trades : applied (first b) (rowAt input i) .trades ≡ 0 + length (submits rs (rowAt input i))
-      unfolding applied
-      trades = refl
 
       pub entry-asking : Asking b₁ at n
       entry-asking = record {
@@ -122,7 +133,7 @@ module _ {b d : List ℕ} {t : Totals} {input : List ℕ} {i : ℕ} (s : Entry b
         there =
             ap (λ (l : List Row). every (λ (j : ℕ). there (aTrade j) (rows b₁)) (map (λ (r : Row). r .id) l)) are
             ∙ ap (λ (l : List Row).
-            every (λ (j : ℕ). there (aTrade j) l) (map (λ (r : Row). r .id) (submits rs (rowAt input i)))) is-rs
+            every (λ (j : ℕ). there (aTrade j) l) (map (λ (r : Row). r .id) (submits rs (rowAt input i)))) (is-rs b₁ q)
             ∙ every-map (λ (r : Row). r .id) (λ (j : ℕ). there (aTrade j) rs) (submits rs (rowAt input i))
             ∙ submits-there rs (rowAt input i);
       }
@@ -144,7 +155,7 @@ module _ {b d : List ℕ} {t : Totals} {input : List ℕ} {i : ℕ} (s : Entry b
           let time : e .time .0 ≡ rowAt input i .time = ap (λ (u : FeedInput). u .time .0) a in
           record {
             rows =
-                r ∙ rw (time, is-rs, are)
+                r ∙ rw (time, is-rs b₁ q, are)
                 (run-map (λ (x : Row). x .id) (sentIn (rowAt input i .time)) rs (submits rs (rowAt input i)));
             ready = l;
             room = omega arith;
@@ -202,8 +213,9 @@ module _ {rs : List Row} {e : Row} {es : List Row} (s : Fits rs (e ∷ es)) wher
           (cond (sameSymbol (e .symbol) (x .symbol)) (e .n2) 0)
           (sharesFor (x .symbol) es)
 
--- what is left of the input, applied to the book as it is, leads to w; so many places were free
-pub record Applying (free : ℕ) (w : Fed) (input b d : List ℕ) (t : Totals) (i : ℕ) : Type 0 where
+-- what is left of the input, applied to the book as it is, leads to w; so many places were free, and w submits at most
+-- so many trades
+pub record Applying (free most : ℕ) (w : Fed) (input b d : List ℕ) (t : Totals) (i : ℕ) : Type 0 where
   trades : ℕ
   pub within : i ≤ places input
   pub ready : Ready b d t
@@ -211,17 +223,19 @@ pub record Applying (free : ℕ) (w : Fed) (input b d : List ℕ) (t : Totals) (
   pub going : Going (rows input) i (rows b)
   pub left : t .free + trades ≡ free
   pub enough : w .trades ≤ free
+  pub few : w .trades ≤ most
   pub same : run applied (record { rows = rows b; trades = trades }) (drop i (rows input)) ≡ w
 
 -- what the book is like at the start
-pub record Ahead (b d : List ℕ) (t : Totals) (input : List ℕ) : Type 0 where
+pub record Ahead (most : ℕ) (b d : List ℕ) (t : Totals) (input : List ℕ) : Type 0 where
   pub ready : Ready b d t
   pub fit : Fits (rows b) (rows input)
   pub going : Going (rows input) 0 (rows b)
   pub room : fed (rows b) (rows input) .trades ≤ t .free
+  pub few : fed (rows b) (rows input) .trades ≤ most
 
-pub apply-start : {b d : List ℕ} {t : Totals} {input : List ℕ} → Ahead b d t input
-    → Applying (t .free) (fed (rows b) (rows input)) input b d t 0
+pub apply-start : {most : ℕ} {b d : List ℕ} {t : Totals} {input : List ℕ} → Ahead most b d t input
+    → Applying (t .free) most (fed (rows b) (rows input)) input b d t 0
 apply-start s = record {
   trades = 0;
   within = omega arith;
@@ -230,6 +244,7 @@ apply-start s = record {
   going = s .going;
   left = omega arith;
   enough = s .room;
+  few = s .few;
   same = refl;
 }
 
@@ -239,54 +254,64 @@ unfolding run applied
 grows f [] = omega arith
 grows f (e ∷ es) = let more = grows (applied f e) es in omega arith
 
-module _ {free : ℕ} {w : Fed} {input b d : List ℕ} {t : Totals} {i : ℕ} (s : Applying free w input b d t i) where
-  pub apply-end : places input ≤ i → rows b ≡ w .rows
-  unfolding run
-  apply-end h = ap (λ (f : Fed). f .rows) (rw (left-none (rows input) i (rw length-rows h)) at (s .same))
-
-  module _ (h : i < places input) where
-    abbrev e : Row
-    e = rowAt input i
-
-    next : drop i (rows input) ≡ e ∷ drop (i + 1) (rows input)
-    next = left-next (rows input) i nothing (rw length-rows h)
-
-    here : Fits (rows b) (e ∷ drop (i + 1) (rows input))
-    here = rw next at (s .fit)
-
-    after : run applied (applied (record { rows = rows b; trades = s .trades }) e) (drop (i + 1) (rows input)) ≡ w
+module _ {free most : ℕ} {w : Fed} {input b d : List ℕ} {t : Totals} {i : ℕ}
+    (s : Applying free most w input b d t i)
+  where
+    pub apply-end : places input ≤ i → rows b ≡ w .rows
     unfolding run
-    after = rw next at (s .same)
+    apply-end h = ap (λ (f : Fed). f .rows) (rw (left-none (rows input) i (rw length-rows h)) at (s .same))
 
-    pub apply-entry : Entry b d t input i
-    unfolding applied
-    apply-entry = record {
-      ready = s .ready;
-      inside = h;
-      known = fits-known here;
-      volume = fits-volume here;
-      going = s .going;
-      room =
+    module _ (h : i < places input) where
+      abbrev e : Row
+      e = rowAt input i
+
+      next : drop i (rows input) ≡ e ∷ drop (i + 1) (rows input)
+      next = left-next (rows input) i nothing (rw length-rows h)
+
+      here : Fits (rows b) (e ∷ drop (i + 1) (rows input))
+      here = rw next at (s .fit)
+
+      after : run applied (applied (record { rows = rows b; trades = s .trades }) e) (drop (i + 1) (rows input)) ≡ w
+      unfolding run
+      after = rw next at (s .same)
+
+      so-far : s .trades + applied (first b) e .trades ≤ w .trades
+      unfolding applied
+      so-far =
           let all = grows (applied (record { rows = rows b; trades = s .trades }) e) (drop (i + 1) (rows input)) in
           let last = ap (λ (f : Fed). f .trades) after in
+          omega arith
+
+      pub apply-entry : Entry most b d t input i
+      apply-entry =
+          let f = so-far in
           let l = s .left in
           let m = s .enough in
-          omega arith;
-    }
+          let k = s .few in
+          record {
+            ready = s .ready;
+            inside = h;
+            known = fits-known here;
+            volume = fits-volume here;
+            going = s .going;
+            room = omega arith;
+            few = omega arith;
+          }
 
-    pub apply-more : {b′ d′ : List ℕ} {t′ : Totals} → Applied e b t b′ d′ t′
-        → Applying free w input b′ d′ t′ (i + 1)
-    unfolding applied
-    apply-more o = record {
-      trades = applied (record { rows = rows b; trades = s .trades }) e .trades;
-      within = omega arith;
-      ready = o .ready;
-      fit = rw (o .rows) (fits-next here 0);
-      going = rw (o .rows) (going-on (s .going) (rw length-rows h) 0);
-      left =
-          let l = s .left in
-          let r = o .room in
-          omega arith;
-      enough = s .enough;
-      same = rw (o .rows) after;
-    }
+      pub apply-more : {b′ d′ : List ℕ} {t′ : Totals} → Applied e b t b′ d′ t′
+          → Applying free most w input b′ d′ t′ (i + 1)
+      unfolding applied
+      apply-more o = record {
+        trades = applied (record { rows = rows b; trades = s .trades }) e .trades;
+        within = omega arith;
+        ready = o .ready;
+        fit = rw (o .rows) (fits-next here 0);
+        going = rw (o .rows) (going-on (s .going) (rw length-rows h) 0);
+        left =
+            let l = s .left in
+            let r = o .room in
+            omega arith;
+        enough = s .enough;
+        few = s .few;
+        same = rw (o .rows) after;
+      }

@@ -2,19 +2,19 @@
 use mathlib.Core.Path.{_≡_, sym, ap, _∙_, refl}
 use mathlib.Core.Bool.{Bool, true, false, cond}
 use mathlib.Core.List.{List, [], _∷_, map}
-use Prim.Native.Nat.{ℕ, suc, _/_, _≤_, _<_}
+use Prim.Native.Nat.{ℕ, suc, _+_, _/_, _≤_, _<_}
 use native.Mathlib.Omega.{arith}
 use lib.Dec.{leb}
 use lib.ListN.{length}
 use borrow.Author.Tests.{leb-true}
-use Rattle.laws.specs.Search.{count, every, keep, length-keep}
+use Rattle.laws.specs.Search.{bit, count, every, keep, length-keep, total}
 use Rattle.record.specs.Bytes.{Bytes}
 use Rattle.record.specs.Codes.{kindFree}
 use Rattle.record.specs.declared.row.Row.{Row}
 use Rattle.model.specs.Status.{isDone}
 use Rattle.model.specs.Feed.{answerRow, checks, fed, feed, swept}
 use Rattle.model.specs.Plan.{Outcome, accepted, decided, refused, room, verdict}
-use Rattle.model.specs.Rows.{is, mostRecords, recordSize, rows, wholeRecords}
+use Rattle.model.specs.Rows.{is, mostRecords, nothing, recordSize, rows, wholeRecords}
 use Rattle.model.specs.Sound.{sound}
 use Rattle.model.specs.declared.Status.{Status}
 use Rattle.facts.specs.Rows.{length-rows}
@@ -27,7 +27,7 @@ use Rattle.facts.specs.Rows.{clean-fit}
 use Rattle.directory.specs.Directory.{Directory}
 use Rattle.directory.specs.declared.totals.Totals.{Totals}
 use Rattle.feed.specs.Apply.{Ahead}
-use Rattle.hits.specs.Due.{going-start, swept-due, trades-due}
+use Rattle.hits.specs.Due.{due-still, going-start, swept-due, trades-due}
 use Rattle.hits.specs.Hits.{due}
 use Rattle.hits.specs.Judge.{allKnown, volumeFits}
 use Rattle.feed.specs.Submit.{written-start}
@@ -41,6 +41,25 @@ keep-most p (x ∷ l) = go (p x) (keep-most p l)
     go : (t : Bool) → length (keep p l) ≤ length l → length (cond t (x ∷ keep p l) (keep p l)) ≤ suc (length l)
     go true ih = omega arith
     go false ih = omega arith
+
+-- where nothing is due nothing leaves
+none-left : (es rs : List Row) → count (due es) rs ≡ 0 → map (left es) rs ≡ rs
+unfolding count total
+none-left es [] h = refl
+none-left es (r ∷ rs) h = go (due es r) (none-left es rs) h
+  where
+    go : (x : Bool) → (count (due es) rs ≡ 0 → map (left es) rs ≡ rs) → bit x + count (due es) rs ≡ 0
+        → cond x nothing r ∷ map (left es) rs ≡ r ∷ rs
+    go true ih h = absurd (omega arith)
+    go false ih h = ap (λ (l : List Row). r ∷ l) (ih (omega arith))
+
+-- after a feed that submits nothing
+pub fed-quiet : (b input : List ℕ) → sound (rows b) ≡ true → {n : ℕ} → n ≡ count (due (rows input)) (rows b)
+    → (b₁ : List ℕ) → rows b₁ ≡ fed (rows b) (rows input) .rows → n ≡ 0
+    → rows b₁ ≡ map (left (rows input)) (rows b₁)
+fed-quiet b input good c b₁ p z =
+    sym (none-left (rows input) (rows b₁)
+    (ap (count (due (rows input))) p ∙ due-still (rows b) (rows input) good ∙ sym c ∙ z))
 
 -- what a feed comes to
 outcome : (rs es : List Row)
@@ -95,7 +114,7 @@ pub ahead : (b d : List ℕ) (t : Totals) (input : List ℕ) {n : ℕ} → Direc
     → n ≡ count (due (rows input)) (rows b)
     → (allKnown (rows b) (rows input) ≡ true) × (every (volumeFits (rows b) (rows input)) (rows input) ≡ true)
     × (leb n (room (rows b)) ≡ true)
-    → Ahead b d t input
+    → Ahead n b d t input
 ahead b d t input {n} s good c f =
     let l = leb-true n (room (rows b)) (f .2) in
     let e = trades-due (rows b) (rows input) good in
@@ -106,4 +125,5 @@ ahead b d t input {n} s good c f =
       fit = record { known = f .0; volumes = f .1 };
       going = going-start (rows b) (rows input) good;
       room = omega arith;
+      few = omega arith;
     }

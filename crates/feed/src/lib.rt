@@ -14,7 +14,7 @@ pub mod post;
 pub mod sweep;
 
 use crate::post::apply_all;
-use crate::sweep::sweep;
+use crate::sweep::swept;
 use directory::totals::Totals;
 use hits::gather::submitted;
 use hits::judge::judge;
@@ -55,8 +55,8 @@ pub fn feed(book: &mut [u8], dir: &mut [u16], t: Totals, input: &[u8], answer: &
     let trades = submitted(book, dir, input);
     let status = judge(book, dir, t, input, trades);
     if done(status) {
-        let applied = apply_all(book, dir, t, input);
-        let totals = sweep(book, dir, applied, input);
+        let applied = apply_all(book, dir, t, input, trades);
+        let totals = swept(book, dir, applied, input, trades);
         put(answer, 0, answer_row(input.len() / Grid::SIZE, trades));
         return Ended { status, totals };
     }

@@ -138,27 +138,32 @@ fn submit_all(
     left
 }
 
+// One entry of a feed that submits so many trades. Where that is none, no request is looked for.
 fn apply(
     book: &mut [u8],
     dir: &mut [u16],
     t: Totals,
     input: &[u8],
     i: usize,
+    trades: usize,
     at: &mut [u16; Sorted::MOST],
 ) -> Totals
-    requires { ⌜ Entry (now book) (now dir) t (now input) i ⌝ }
+    requires { ⌜ Entry trades (now book) (now dir) t (now input) i ⌝ }
     ensures { λ r.
         ⌜ Applied (rowAt (now (input .entry)) i) (now (book .entry)) t (now (book .exit)) (now (dir .exit)) r ⌝ }
 {
     let entry = entry_at(input, i);
     quote(book, dir, t, entry);
+    if trades == 0 {
+        return t;
+    }
     let n = submits(book, dir, input, i, at);
     submit_all(book, dir, t, at, n, entry.time)
 }
 
-// The entries in turn.
-pub fn apply_all(book: &mut [u8], dir: &mut [u16], t: Totals, input: &[u8]) -> Totals
-    requires { ⌜ Ahead (now book) (now dir) t (now input) ⌝ }
+// The entries in turn, which submit so many trades.
+pub fn apply_all(book: &mut [u8], dir: &mut [u16], t: Totals, input: &[u8], trades: usize) -> Totals
+    requires { ⌜ Ahead trades (now book) (now dir) t (now input) ⌝ }
     ensures { λ _. ⌜ rows (now (book .exit)) ≡ fed (rows (now (book .entry))) (rows (now (input .entry))) .rows ⌝ }
     ensures { λ r. ⌜ Directory (now (book .exit)) (now (dir .exit)) r ⌝ }
 {
@@ -167,7 +172,7 @@ pub fn apply_all(book: &mut [u8], dir: &mut [u16], t: Totals, input: &[u8]) -> T
     let mut left = t;
     let mut i = 0;
     while i < n {
-        left = apply(book, dir, left, input, i, &mut at);
+        left = apply(book, dir, left, input, i, trades, &mut at);
         i += 1;
     }
     left

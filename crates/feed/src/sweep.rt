@@ -50,7 +50,7 @@ fn sweep_entry(book: &mut [u8], dir: &mut [u16], t: Totals, entry: FeedInput) ->
 }
 
 // The requests that were submitted leave.
-pub fn sweep(book: &mut [u8], dir: &mut [u16], t: Totals, input: &[u8]) -> Totals
+fn sweep(book: &mut [u8], dir: &mut [u16], t: Totals, input: &[u8]) -> Totals
     requires { ⌜ Directory (now book) (now dir) t ⌝ }
     ensures { λ _. ⌜ rows (now (book .exit)) ≡ map (left (rows (now (input .entry)))) (rows (now (book .entry))) ⌝ }
     ensures { λ r. ⌜ Directory (now (book .exit)) (now (dir .exit)) r ⌝ }
@@ -63,4 +63,17 @@ pub fn sweep(book: &mut [u8], dir: &mut [u16], t: Totals, input: &[u8]) -> Total
         i += 1;
     }
     left
+}
+
+// The same after a feed that submits so many trades: where that is none, no request is looked for.
+pub fn swept(book: &mut [u8], dir: &mut [u16], t: Totals, input: &[u8], trades: usize) -> Totals
+    requires { ⌜ Directory (now book) (now dir) t ⌝ }
+    requires { ⌜ (trades ≡ 0 → rows (now book) ≡ map (left (rows (now input))) (rows (now book))) ⌝ }
+    ensures { λ _. ⌜ rows (now (book .exit)) ≡ map (left (rows (now (input .entry)))) (rows (now (book .entry))) ⌝ }
+    ensures { λ r. ⌜ Directory (now (book .exit)) (now (dir .exit)) r ⌝ }
+{
+    if trades == 0 {
+        return t;
+    }
+    sweep(book, dir, t, input)
 }

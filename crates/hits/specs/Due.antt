@@ -295,6 +295,17 @@ module _ (rs es : List Row) (e : sound rs ≡ true) where
       ∙ zero-add (count (hitBy es) (keep (is kindRequest) rs))
       ∙ count-keep (is kindRequest) (hitBy es) rs
 
+  after-fed : Waiting (keep (is kindRequest) rs) (hitBy es) (fed rs es .rows)
+  after-fed =
+      after-all (keep (is kindRequest) rs) (all-alone rs book) (λ r. false) (record { rows = rs; trades = 0 }) es
+      (all-wait rs book)
+
+  -- no entry changes a request: as many are due in the end
+  pub due-still : count (due es) (fed rs es .rows) ≡ count (due es) rs
+  due-still =
+      sym (count-keep (is kindRequest) (hitBy es) (fed rs es .rows)) ∙ ap (count (hitBy es)) (after-fed .requests)
+      ∙ count-keep (is kindRequest) (hitBy es) rs
+
   pub swept-due : swept (run applied (record { rows = rs; trades = 0 }) es .rows)
       ≡ map (λ (r : Row). cond (due es r) nothing r) (run applied (record { rows = rs; trades = 0 }) es .rows)
   unfolding swept
@@ -303,11 +314,6 @@ module _ (rs es : List Row) (e : sound rs ≡ true) where
       (λ (r : Row). cond (due es r) nothing r) (fed rs es .rows)
       (λ r m. ap (λ (x : Bool). cond x nothing r) (go r m (is kindRequest r) refl))
     where
-      w : Waiting (keep (is kindRequest) rs) (hitBy es) (fed rs es .rows)
-      w =
-          after-all (keep (is kindRequest) rs) (all-alone rs book) (λ r. false) (record { rows = rs; trades = 0 }) es
-          (all-wait rs book)
-
       twice : (x : Bool) → not (not x) ≡ x
       twice true = refl
       twice false = refl
@@ -315,8 +321,8 @@ module _ (rs es : List Row) (e : sound rs ≡ true) where
       go : (r : Row) → List·Memᴰ r (fed rs es .rows) → (t : Bool) → is kindRequest r ≡ t
           → (is kindRequest r && not (waits (fed rs es .rows) r)) ≡ due es r
       go r m true k =
-          let n = subst (λ (l : List Row). List·Memᴰ r l) (w .requests)
+          let n = subst (λ (l : List Row). List·Memᴰ r l) (after-fed .requests)
           (keep-has (is kindRequest) r (fed rs es .rows) m k)
           in
-          rw (k, w .waiting r n) (twice (hitBy es r))
+          rw (k, after-fed .waiting r n) (twice (hitBy es r))
       go r m false k = rw k

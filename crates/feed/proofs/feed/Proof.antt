@@ -5,7 +5,7 @@ use native.Mathlib.Omega.{arith}
 use lib.ListN.{length}
 use Rattle.model.specs.Status.{isDone}
 use Rattle.hits.specs.Judge.{few-inputs, judged-done}
-use Rattle.feed.specs.Whole.{ahead, fed-done, fed-refused, few-trades}
+use Rattle.feed.specs.Whole.{ahead, fed-done, fed-quiet, fed-refused, few-trades}
 use borrow.Author.Needs.{needs}
 use Rattle.feed.proofs.feed.Statement.{statement}
 use Rattle.feed.proofs.feed.Tie as tie
@@ -26,6 +26,14 @@ apply-all-requires c κs =
     (ap isDone (sym (judge .judge .ensures)) ∙ sym (done .done .ensures) ∙ test .if1 .taken)
     in
     ahead _ _ _ _ (start .pre .0) good (submitted .submitted .ensures) passed
+
+swept-requires : tie.Need-swept-requires
+swept-requires c κs =
+    let apply = c .before .before .before .before .before .before in
+    let submitted = apply .before .before .before .before .before .before .before .before in
+    let start = submitted .before .before .before .before .before .before .before in
+    let applied = apply .apply-all .ensures in
+    (applied .1, fed-quiet _ _ (start .pre .1 .0 .0) (submitted .submitted .ensures) _ (applied .0))
 
 answer-row-requires : tie.Need-answer-row-requires
 answer-row-requires c κs =
@@ -57,7 +65,7 @@ returns c =
     let submitted = judge .before .before .before in
     let start = submitted .before .before .before .before .before .before .before in
     let good = start .pre .1 .0 .0 in
-    let swept = sweep .sweep in
+    let swept = sweep .swept in
     let applied = apply .apply-all in
     let before : length (applied .last .0) ≡ length (start .args .book .now) = search needs in
     let after : length (swept .last .0) ≡ length (applied .last .0) = search needs in
@@ -85,5 +93,5 @@ pub feed-spec : {M : Type 1} → statement M
 feed-spec =
     tie.close
     (tie.spec submitted-requires (λ c κs. search needs) (λ c κs. search needs) apply-all-requires
-    (λ c κs. search needs) answer-row-requires (λ c κs. search needs) (λ c. search needs) (λ c. search needs)
+    swept-requires answer-row-requires (λ c κs. search needs) (λ c. search needs) (λ c. search needs)
     (λ c. search needs) returns (λ c. search needs) (λ c. search needs) returns-2)

@@ -11,12 +11,12 @@ use Rattle.feed.proofs.post.apply_all.Statement.{statement}
 use Rattle.feed.proofs.post.apply_all.Tie as tie
 
 abbrev Inv-loop : tie.InvT-loop
-Inv-loop book₀ dir₀ input at₀ n left₀ i₀ book dir at left i =
-    Applying (left₀ .free) (fed (rows book₀) (rows input)) input book dir left i
+Inv-loop book₀ dir₀ input trades at₀ n left₀ i₀ book dir at left i =
+    Applying (left₀ .free) trades (fed (rows book₀) (rows input)) input book dir left i
     × ((length book ≡ length book₀) × (length dir ≡ length dir₀))
 
 abbrev μ-loop : tie.MeasureT-loop
-μ-loop book₀ dir₀ input at₀ n left₀ i₀ book dir at left i = n - i
+μ-loop book₀ dir₀ input trades at₀ n left₀ i₀ book dir at left i = n - i
 
 loop-holds : tie.Need-loop-holds Inv-loop μ-loop
 loop-holds c = (apply-start (c .before .before .before .before .pre), (refl, refl))
