@@ -30,7 +30,7 @@ use Rattle.directory.specs.Directory.{Blank, Directory, blank-of}
 use Rattle.directory.specs.declared.totals.Totals.{Totals}
 use Rattle.reply.specs.Left.{answerLeft, bookLeft, left-refused, promised}
 use Rattle.reply.specs.declared.Ended.{Ended}
-use Rattle.sound.specs.ByRow.{rule-kept, rule-lost}
+use Rattle.by_kind.specs.ByRow.{rule-kept, rule-lost}
 use Rattle.book.specs.declared.Call.{Call}
 use Rattle.book.specs.declared.Call.the-variants.{Feed, Order, Result}
 

@@ -1,15 +1,1 @@
-pub mod Says
-pub mod Distinct
-pub mod Once
-pub mod OneSide
-pub mod ByRow
-pub mod RowRules
-pub mod Hung
-pub mod Well
-pub mod Slots
-pub mod Chains
-pub mod Kinds
-pub mod Turn
-pub mod Spelt
-pub mod Told
 pub mod Status

@@ -12,7 +12,7 @@ use Rattle.model.specs.Rows.{mostRecords, rows, wholeRecords}
 use Rattle.model.specs.Sound.{sound}
 use Rattle.model.specs.Tally.{bookStatus}
 use Rattle.model.specs.declared.Status.the-variants.{BadBook, Done, Unsound}
-use Rattle.sound.specs.ByRow.{rule-kept, rule-lost}
+use Rattle.by_kind.specs.ByRow.{rule-kept, rule-lost}
 
 module _ (most : ℕ) (b : List ℕ) where
   pub bad-book : {x : Bool} → x ≡ wholeRecords most (length b) → not x ≡ true → BadBook ≡ bookStatus most b

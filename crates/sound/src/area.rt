@@ -1,7 +1,7 @@
 // The areas of a check by the size of the book, so that a small book does not pay for clearing large ones: the cells of
 // its directory, its places chained by kind, and the marks of its trades.
-use crate::chain::Links;
-use crate::hang::Marks;
+use by_kind::chain::Links;
+use hanging::Marks;
 use kinds::limits::Ranges;
 
 pub struct Small {}

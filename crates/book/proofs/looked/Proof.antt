@@ -3,7 +3,7 @@ use native.Mathlib.Omega.{arith}
 use borrow.Author.Needs.{needs}
 use Rattle.model.specs.Call.{run}
 use Rattle.facts.specs.Status.{number-back}
-use Rattle.sound.specs.ByRow.{rule-kept, rule-lost}
+use Rattle.by_kind.specs.ByRow.{rule-kept, rule-lost}
 use Rattle.book.specs.Shell.{decides, lookup-left, lookup-long, refuses}
 use Rattle.book.proofs.looked.Statement.{statement}
 use Rattle.book.proofs.looked.Tie as tie

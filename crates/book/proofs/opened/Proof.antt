@@ -1,6 +1,6 @@
 -- The checks one after the other; the directory is built in between. Assumes nothing.
 use mathlib.Core.Path.{refl}
-use Rattle.sound.specs.ByRow.{rule-kept}
+use Rattle.by_kind.specs.ByRow.{rule-kept}
 use Rattle.book.specs.Shell.{bad-book, bad-input, few, open-book, unsound-book}
 use borrow.Author.Needs.{needs}
 use Rattle.book.proofs.opened.Statement.{statement}

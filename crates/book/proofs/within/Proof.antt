@@ -2,7 +2,7 @@
 use native.Mathlib.Omega.{arith}
 use borrow.Author.Needs.{needs}
 use Rattle.facts.specs.Status.{number-back}
-use Rattle.sound.specs.ByRow.{rule-kept, rule-lost}
+use Rattle.by_kind.specs.ByRow.{rule-kept, rule-lost}
 use Rattle.book.specs.Shell.{decides, long-both, refuses}
 use Rattle.book.proofs.within.Statement.{statement}
 use Rattle.book.proofs.within.Tie as tie

@@ -1,8 +1,8 @@
 -- Where the summaries fit, all rows do, and where they are well, all rows are. Assumes nothing.
 use mathlib.Core.Path.{refl, sym}
 use native.Mathlib.Omega.{arith}
-use Rattle.sound.specs.Kinds.{fits-all, sound-all, unique-all}
-use Rattle.sound.specs.Says.{said, says-all, unsaid}
+use Rattle.by_kind.specs.Kinds.{fits-all, sound-all, unique-all}
+use Rattle.by_kind.specs.Says.{said, says-all, unsaid}
 use borrow.Author.Needs.{needs}
 use Rattle.sound.proofs.whole.closing.Statement.{statement}
 use Rattle.sound.proofs.whole.closing.Tie as tie

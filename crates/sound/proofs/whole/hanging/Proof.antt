@@ -2,9 +2,9 @@
 use mathlib.Core.Path.{refl}
 use native.Mathlib.Omega.{arith}
 use Rattle.record.specs.Codes.{kindTrade}
-use Rattle.sound.specs.Kinds.{kind-fits, well-but, well-next}
-use Rattle.sound.specs.Says.{said, says-no, says-so, unsaid}
-use Rattle.sound.specs.Turn.{marked-gap}
+use Rattle.by_kind.specs.Kinds.{kind-fits, well-but, well-next}
+use Rattle.by_kind.specs.Says.{said, says-no, says-so, unsaid}
+use Rattle.hanging.specs.Turn.{marked-gap}
 use borrow.Author.Needs.{needs}
 use Rattle.sound.proofs.whole.hanging.Statement.{statement}
 use Rattle.sound.proofs.whole.hanging.Tie as tie

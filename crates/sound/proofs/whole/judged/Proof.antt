@@ -1,6 +1,6 @@
 -- Part by part, each of which says that the book is not sound or hands on what it shows. Assumes nothing.
 use mathlib.Core.Path.{sym}
-use Rattle.sound.specs.Says.{said, unsaid}
+use Rattle.by_kind.specs.Says.{said, unsaid}
 use borrow.Author.Needs.{needs}
 use Rattle.sound.proofs.whole.judged.Statement.{statement}
 use Rattle.sound.proofs.whole.judged.Tie as tie

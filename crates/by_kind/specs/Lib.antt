@@ -1,0 +1,12 @@
+pub mod Says
+pub mod Distinct
+pub mod Once
+pub mod OneSide
+pub mod ByRow
+pub mod RowRules
+pub mod Hung
+pub mod Well
+pub mod Chains
+pub mod Kinds
+pub mod Spelt
+pub mod Told
