@@ -1,6 +1,6 @@
 -- The fields of a kind's key as eight tests, in the way of the code: for each kind of the table, whether it is this one
 -- and its key has the field. `marks-tell`: they are the lists of the kinds, read off the same table. Assumes nothing.
-use mathlib.Core.Path.{_≡_, refl, sym, _∙_}
+use mathlib.Core.Path.{_≡_, refl, sym, ap, _∙_}
 use mathlib.Core.Bool.{Bool, true, false, cond, _&&_, _||_}
 use mathlib.Core.List.{List, [], _∷_}
 use Prim.Native.Nat.{ℕ}
@@ -77,6 +77,32 @@ among-is : (k : ℕ) (js : List ℕ) → among k js ≡ anyOf k js
 among-is k [] = refl
 among-is k (j ∷ js) = from-is (eqb k j) k js
 
+-- the marks of a kind, read off the lists
+abbrev pub listed : ℕ → Marks
+listed k = record {
+  form = among k byForm;
+  status = among k byStatus;
+  flags = among k byFlags;
+  party = among k byParty;
+  id = among k byId;
+  symbol = among k bySymbol;
+  n1 = among k byN1;
+  m2 = among k byM2;
+}
+
+pub marks-are : (k : ℕ) → marksOf k allKeys ≡ listed k
+unfolding marksOf
+marks-are k = sym (λ i. record {
+  form = among-is k byForm i;
+  status = among-is k byStatus i;
+  flags = among-is k byFlags i;
+  party = among-is k byParty i;
+  id = among-is k byId i;
+  symbol = among-is k bySymbol i;
+  n1 = among-is k byN1 i;
+  m2 = among-is k byM2 i;
+})
+
 -- a row's key by the marks of its kind
 abbrev keptBy : Marks → Row → Key
 keptBy m r = record {
@@ -92,17 +118,5 @@ keptBy m r = record {
 }
 
 pub marks-tell : (r : Row) → keyOf r ≡ keptBy (marksOf (r .kind) allKeys) r
-unfolding keyOf marksOf
-marks-tell r =
-    let k = r .kind in
-    λ i. record {
-      kind = k;
-      form = cond (among-is k byForm i) (r .form) 0;
-      status = cond (among-is k byStatus i) (r .status) 0;
-      flags = cond (among-is k byFlags i) (r .flags) 0;
-      party = cond (among-is k byParty i) (r .party) 0;
-      id = cond (among-is k byId i) (r .id) 0;
-      symbol = cond (among-is k bySymbol i) (r .symbol) noSymbol;
-      n1 = cond (among-is k byN1 i) (r .n1) 0;
-      m2 = cond (among-is k byM2 i) (r .m2) 0;
-    }
+unfolding keyOf
+marks-tell r = ap (λ (m : Marks). keptBy m r) (sym (marks-are (r .kind)))

@@ -94,7 +94,7 @@ fn trading(k: u8) -> Marks
 }
 
 // The fields of a kind's key: a test for each kind and no branch.
-fn marks(k: u8) -> Marks
+pub fn marks(k: u8) -> Marks
     ensures { λ r. ⌜ r ≡ marksOf k allKeys ⌝ }
 {
     let m = trading(k);
