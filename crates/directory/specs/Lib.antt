@@ -2,7 +2,6 @@ pub mod Listed
 pub mod Directory
 pub mod Moves
 pub mod Kept
-pub mod Names
-pub mod Plain
+pub mod Marked
 pub mod Found
 pub mod Added

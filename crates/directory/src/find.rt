@@ -3,55 +3,56 @@ ghost use mathlib.Core.Path.{_≡_};
 ghost use mathlib.Core.Bool.{false};
 ghost use Prim.Native.Nat.{_+_, _<_};
 ghost use lib.ListN.{drop};
-ghost use Rattle.laws.specs.Search.{place, seek};
+ghost use Rattle.laws.specs.Search.{seek};
 ghost use Rattle.rules.specs.Key.{keyOf};
+ghost use Rattle.rules.specs.Marks.{allKeys, marksOf};
 ghost use Rattle.model.specs.Rows.{hasKey, rows};
 ghost use Rattle.places.specs.Rows.{rowAt};
 ghost use Rattle.chains.specs.Group.{apart, keyGroup};
 ghost use Rattle.directory.specs.Listed.{InBucket, Listed, places};
+ghost use Rattle.directory.specs.Marked.{trimmed};
 use chains::chain::next;
-use chains::group;
+use kinds::limits::Marks;
 use places::place::row_at;
-use places::search::named;
 use record::row::Grid;
 use record::row::Row;
 use rules::key::Key;
+use rules::key::marks;
 
-// The row has the key. Most rows of a bucket that have not are of another kind; of the key's own kind only the fields
-// of its key are compared.
-fn has(key: Key, row: Row) -> bool
+// The row has the key. Of its fields those are compared that the marks of the key's kind name, and where they lie.
+fn has(m: Marks, key: Key, row: Row) -> bool
+    requires { ⌜ (m ≡ marksOf (key .kind) allKeys) × (trimmed key ≡ key) ⌝ }
     ensures { λ r. ⌜ r ≡ hasKey key row ⌝ }
 {
-    if row.kind != key.kind {
-        return false;
-    }
-    named(key, row)
+    let own = row.symbol;
+    let asked = key.symbol;
+    (row.kind == key.kind)
+        & (!m.form | (row.form == key.form))
+        & (!m.status | (row.status == key.status))
+        & (!m.flags | (row.flags == key.flags))
+        & (!m.party | (row.party == key.party))
+        & (!m.id | (row.id == key.id))
+        & (!m.symbol | own.same(asked))
+        & (!m.n1 | (row.n1 == key.n1))
+        & (!m.m2 | (row.m2 == key.m2))
 }
 
-// The first place of a key from a place of its bucket on.
-fn walk(book: &[u8], dir: &[u16], key: Key, from: usize) -> usize
+// The first place of a key from a place of its bucket on, by the marks of its kind.
+pub fn walk(book: &[u8], dir: &[u16], m: Marks, key: Key, from: usize) -> usize
     requires { ⌜ Listed (now book) (now dir) ⌝ }
+    requires { ⌜ (m ≡ marksOf (key .kind) allKeys) × (trimmed key ≡ key) ⌝ }
     requires { ⌜ (apart (key .kind) ≡ false) × InBucket (now book) (now dir) (keyGroup key) from ⌝ }
     ensures { λ r. ⌜ r ≡ seek (hasKey key) from (drop from (rows (now (book .entry)))) ⌝ }
 {
     let n = book.len() / Grid::SIZE;
     let mut c = from;
     while c < n {
-        if has(key, row_at(book, c)) {
+        if has(m, key, row_at(book, c)) {
             return c;
         }
         c = next(dir, c);
     }
     c
-}
-
-// The place of the first row of a key that is no lot's and no request's, the number of places where there is none.
-pub fn find(book: &[u8], dir: &[u16], key: Key) -> usize
-    requires { ⌜ Listed (now book) (now dir) ⌝ }
-    requires { ⌜ apart (key .kind) ≡ false ⌝ }
-    ensures { λ r. ⌜ r ≡ place (hasKey key) (rows (now (book .entry))) ⌝ }
-{
-    walk(book, dir, key, group::first(dir, group::of_key(key)))
 }
 
 // The next place after i with the key of the row at i, the number of places where there is none.
@@ -64,5 +65,5 @@ pub fn again(book: &[u8], dir: &[u16], i: usize, row: Row) -> usize
     if book.len() / Grid::SIZE <= c {
         return c;
     }
-    walk(book, dir, Key::of(row), c)
+    walk(book, dir, marks(row.kind), Key::of(row), c)
 }

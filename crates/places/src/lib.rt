@@ -3,4 +3,3 @@
 pub mod count;
 pub mod place;
 pub mod put;
-pub mod search;

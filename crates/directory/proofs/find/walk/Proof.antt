@@ -11,16 +11,15 @@ use Rattle.directory.proofs.find.walk.Statement.{statement}
 use Rattle.directory.proofs.find.walk.Tie as tie
 
 abbrev Inv-loop : tie.InvT-loop
-Inv-loop book dir key from n c₀ c =
+Inv-loop book dir m key from n c₀ c =
     Probed (hasKey key) (keyGroup key) book dir (seek (hasKey key) from (drop from (rows book))) c
 
 abbrev μ-loop : tie.MeasureT-loop
-μ-loop book dir key from n c₀ c = n - c
+μ-loop book dir m key from n c₀ c = n - c
 
 pub walk-spec : {M : Type 1} → statement M
 walk-spec =
     tie.close
-    (tie.spec Inv-loop μ-loop (λ c. search (needs, walks, key-grouped)) (λ c κs. search (needs, walks, key-grouped))
-    (λ c κs. search (needs, walks, key-grouped)) (λ c. search (needs, walks, key-grouped))
-    (λ c κs. search (needs, walks, key-grouped)) (λ c. search (needs, walks, key-grouped))
-    (λ c. search (needs, walks, key-grouped)) (λ c. search (needs, walks, key-grouped)))
+    (tie.spec Inv-loop μ-loop (λ c. search (needs, walks, key-grouped)) (λ c κs. search (needs, walks))
+    (λ c κs. search (needs, walks)) (λ c. search (needs, walks)) (λ c κs. search (needs, walks))
+    (λ c. search (needs, walks)) (λ c. search (needs, walks)) (λ c. search (needs, walks)))
