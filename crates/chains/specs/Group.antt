@@ -11,7 +11,9 @@ use Rattle.laws.specs.Tests.{and-true, or-false}
 use Rattle.record.specs.Codes.{kindAccount, kindBand, kindBroker, kindCharge, kindFree, kindLot, kindRequest}
 use Rattle.record.specs.Codes.{kindSecurity, kindSummary, kindTrade, kindTradeHistory}
 use Rattle.rules.specs.Key.{among, byId, byParty, bySymbol, keyOf}
+use Rattle.rules.specs.Marks.{allKeys, marks-are, marksOf}
 use Rattle.rules.specs.declared.key.Key.{Key}
+use Rattle.kinds.specs.declared.limits.Marks.{Marks}
 use Rattle.record.specs.Symbol.{noSymbol, symbolNumber}
 use Rattle.record.specs.declared.row.Row.{Row}
 use Rattle.record.specs.declared.symbol.Symbol.{Symbol}
@@ -86,14 +88,13 @@ abbrev groupBy : Row → Bool → Bool → Key
 groupBy r lot request =
     cond lot (lotGroup (r .party) (r .symbol)) (cond request (requestGroup (r .symbol)) (keyGroup (keyOf r)))
 
-pub common-group : (r : Row) {p i : ℕ} {s : Symbol} {x y z : Bool}
-    → (eqb (r .kind) kindBand || eqb (r .kind) kindCharge) ≡ false → x ≡ among (r .kind) byParty
-    → y ≡ among (r .kind) byId → z ≡ among (r .kind) bySymbol → p ≡ cond (x || is kindLot r) (r .party) 0
-    → i ≡ cond (y && not (apart (r .kind))) (r .id) 0 → s ≡ cond (z || apart (r .kind)) (r .symbol) noSymbol
-    → aGroup (r .kind) 0 0 0 p i s ≡ groupOf r
+pub common-group : (r : Row) {p i : ℕ} {s : Symbol} {m : Marks}
+    → (eqb (r .kind) kindBand || eqb (r .kind) kindCharge) ≡ false → m ≡ marksOf (r .kind) allKeys
+    → p ≡ cond (m .party || is kindLot r) (r .party) 0 → i ≡ cond (m .id && not (apart (r .kind))) (r .id) 0
+    → s ≡ cond (m .symbol || apart (r .kind)) (r .symbol) noSymbol → aGroup (r .kind) 0 0 0 p i s ≡ groupOf r
 unfolding groupOf keyGroup keyOf
-common-group r {p} {i} {s} n ex ey ez ep ei es =
-    rw (ep, ei, es, ex, ey, ez)
+common-group r {p} {i} {s} {m} n em ep ei es =
+    rw (ep, ei, es, em, marks-are (r .kind))
     (go (is kindLot r) (is kindRequest r) (eqb (r .kind) kindTradeHistory) refl refl refl)
   where
     go : (t q u : Bool) → is kindLot r ≡ t → is kindRequest r ≡ q → eqb (r .kind) kindTradeHistory ≡ u

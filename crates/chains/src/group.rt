@@ -8,7 +8,6 @@ ghost use lib.Dec.{eqb};
 ghost use lib.ListN.{getD};
 ghost use Rattle.record.specs.Codes.{kindBand, kindCharge};
 ghost use Rattle.record.specs.Symbol.{noSymbol};
-ghost use Rattle.rules.specs.Key.{among, byId, byParty, bySymbol};
 ghost use Rattle.chains.specs.Chains.{half};
 ghost use Rattle.chains.specs.Group.{aGroup, bucketOf, groupOf, hashOf, keyGroup, letters, mostHeads, spread};
 use crate::chain;
@@ -17,6 +16,7 @@ use record::codes::Kind;
 use record::row::Row;
 use record::symbol::Symbol;
 use rules::key::Key;
+use rules::key::marks;
 
 fn wide8(x: u8) -> u64
     ensures { λ r. ⌜ (r ≡ x) × (r < 256) ⌝ }
@@ -98,7 +98,7 @@ pub fn of_fields(
 }
 
 // The group of the rows of a key that is no lot's and no request's.
-pub fn of_key(key: Key) -> Key
+fn of_key(key: Key) -> Key
     ensures { λ r. ⌜ r ≡ keyGroup key ⌝ }
 {
     if key.kind == Kind::TRADE_HISTORY {
@@ -141,49 +141,19 @@ fn kept_symbol(named: bool, x: Symbol) -> Symbol
     if named { x } else { Symbol::NONE }
 }
 
-// The kinds whose key has a number of a party.
-fn owned(kind: u8) -> bool
-    ensures { λ r. ⌜ r ≡ among kind byParty ⌝ }
-{
-    (kind == Kind::BROKER)
-        | (kind == Kind::CUSTOMER)
-        | (kind == Kind::TAX_RATE)
-        | (kind == Kind::CUSTOMER_RATE)
-        | (kind == Kind::ACCOUNT)
-        | (kind == Kind::SUMMARY)
-}
-
-// The kinds whose key has a trade's number.
-fn numbered(kind: u8) -> bool
-    ensures { λ r. ⌜ r ≡ among kind byId ⌝ }
-{
-    (kind == Kind::TRADE)
-        | (kind == Kind::REQUEST)
-        | (kind == Kind::TRADE_HISTORY)
-        | (kind == Kind::LOT)
-        | (kind == Kind::LOT_HISTORY)
-        | (kind == Kind::SETTLEMENT)
-        | (kind == Kind::CASH)
-}
-
-// The kinds whose key has a symbol.
-fn lettered(kind: u8) -> bool
-    ensures { λ r. ⌜ r ≡ among kind bySymbol ⌝ }
-{
-    (kind == Kind::SECURITY) | (kind == Kind::SUMMARY)
-}
-
-// The group of a row that is neither a band nor a charge, without a branch.
+// The group of a row that is neither a band nor a charge, without a branch: the fields of its key, but for a lot
+// and a request.
 fn common(row: Row) -> Key
     requires { ⌜ (eqb (row .kind) kindBand || eqb (row .kind) kindCharge) ≡ false ⌝ }
     ensures { λ r. ⌜ r ≡ groupOf row ⌝ }
 {
     let kind = row.kind;
+    let m = marks(kind);
     let lot = kind == Kind::LOT;
     let apart = lot | (kind == Kind::REQUEST);
-    let party = kept32(owned(kind) | lot, row.party);
-    let id = kept64(numbered(kind) & !apart, row.id);
-    let symbol = kept_symbol(lettered(kind) | apart, row.symbol);
+    let party = kept32(m.party | lot, row.party);
+    let id = kept64(m.id & !apart, row.id);
+    let symbol = kept_symbol(m.symbol | apart, row.symbol);
     of_fields(kind, 0, 0, 0, party, id, symbol)
 }
 

@@ -8,19 +8,16 @@ use Rattle.chains.proofs.group.common.Tie as tie
 returns : tie.Need-returns
 returns c =
     let at-kept-symbol = c .before in
-    let at-lettered = at-kept-symbol .before in
-    let at-kept64 = at-lettered .before in
-    let at-numbered = at-kept64 .before in
-    let at-kept32 = at-numbered .before in
-    let at-owned = at-kept32 .before in
-    let entry = at-owned .before in
+    let at-kept64 = at-kept-symbol .before .before in
+    let at-kept32 = at-kept64 .before .before in
+    let at-marks = at-kept32 .before .before in
+    let entry = at-marks .before in
     c .of-fields .ensures
-    ∙ common-group (entry .args .row) (entry .pre) (at-owned .owned .ensures) (at-numbered .numbered .ensures)
-    (at-lettered .lettered .ensures)
-    (at-kept32 .kept32 .ensures) (at-kept64 .kept64 .ensures) (at-kept-symbol .kept-symbol .ensures)
+    ∙ common-group (entry .args .row) (entry .pre) (at-marks .marks .ensures) (at-kept32 .kept32 .ensures)
+    (at-kept64 .kept64 .ensures) (at-kept-symbol .kept-symbol .ensures)
 
 pub common-spec : {M : Type 1} → statement M
 common-spec =
     tie.close
     (tie.spec (λ c κs. search needs) (λ c κs. search needs) (λ c κs. search needs) (λ c κs. search needs)
-    (λ c κs. search needs) (λ c κs. search needs) (λ c κs. search needs) returns)
+    (λ c κs. search needs) returns)
