@@ -6,11 +6,14 @@ ghost use mathlib.Core.Bool.{_||_, cond, false};
 ghost use Prim.Native.Nat.{_<_, _≤_};
 ghost use lib.Dec.{eqb};
 ghost use lib.ListN.{getD};
-ghost use Rattle.record.specs.Codes.{kindBand, kindCharge};
+ghost use Rattle.record.specs.Codes.{kindBand, kindCharge, kindCustomerRate};
 ghost use Rattle.record.specs.Symbol.{noSymbol};
 ghost use Rattle.chains.specs.Chains.{half};
-ghost use Rattle.chains.specs.Group.{aGroup, bucketOf, groupOf, hashOf, keyGroup, letters, mostHeads, spread};
+ghost use Rattle.chains.specs.Group.{aGroup, bucketOf, groupOf, hashOf, keyGroup, letters, lotGroup, mostHeads};
+ghost use Rattle.chains.specs.Group.{requestGroup, spread};
 use crate::chain;
+use kinds::units::AccountNo;
+use kinds::units::CustomerNo;
 use record::bytes::wide32;
 use record::codes::Kind;
 use record::row::Row;
@@ -95,6 +98,34 @@ pub fn of_fields(
         n1: 0,
         m2: 0,
     }
+}
+
+// The lots of a holding.
+pub fn lots_of(account: AccountNo, symbol: Symbol) -> Key
+    ensures { λ r. ⌜ r ≡ lotGroup (account .0) symbol ⌝ }
+{
+    of_fields(Kind::LOT, 0, 0, 0, account.0, 0, symbol)
+}
+
+// The requests for a security.
+pub fn requests_of(symbol: Symbol) -> Key
+    ensures { λ r. ⌜ r ≡ requestGroup symbol ⌝ }
+{
+    of_fields(Kind::REQUEST, 0, 0, 0, 0, 0, symbol)
+}
+
+// The rates of a customer.
+pub fn rates_of(customer: CustomerNo) -> Key
+    ensures { λ r. ⌜ r ≡ aGroup kindCustomerRate 0 0 0 (customer .0) 0 noSymbol ⌝ }
+{
+    of_fields(Kind::CUSTOMER_RATE, 0, 0, 0, customer.0, 0, Symbol::NONE)
+}
+
+// The bands of a type, tier and exchange.
+pub fn bands_of(form: u8, tier: u8, exchange: u8) -> Key
+    ensures { λ r. ⌜ r ≡ aGroup kindBand form tier exchange 0 0 noSymbol ⌝ }
+{
+    of_fields(Kind::BAND, form, tier, exchange, 0, 0, Symbol::NONE)
 }
 
 // The group of the rows of a key that is no lot's and no request's.

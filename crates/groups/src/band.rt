@@ -16,7 +16,6 @@ use places::place::part;
 use places::place::record_at;
 use record::codes::Kind;
 use record::row::Grid;
-use record::symbol::Symbol;
 
 // The record at a place is the band that holds the shares.
 fn holds(book: &[u8], form: u8, tier: u8, exchange: u8, shares: Shares, at: usize) -> bool
@@ -42,7 +41,7 @@ pub fn band(book: &[u8], dir: &[u16], form: u8, tier: u8, exchange: u8, shares: 
     ensures { λ r. ⌜ r ≡ place (bandFor form tier exchange (up (shares .0))) (rows (now (book .entry))) ⌝ }
 {
     let n = book.len() / Grid::SIZE;
-    let bands = group::of_fields(Kind::BAND, form, tier, exchange, 0, 0, Symbol::NONE);
+    let bands = group::bands_of(form, tier, exchange);
     let mut c = group::first(dir, bands);
     while c < n {
         if holds(book, form, tier, exchange, shares, c) {

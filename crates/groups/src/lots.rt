@@ -42,11 +42,7 @@ pub fn first_lot(book: &[u8], dir: &[u16], account: AccountNo, symbol: Symbol) -
     requires { ⌜ Listed (now book) (now dir) ⌝ }
     ensures { λ r. ⌜ r ≡ place (lotOf (account .0) symbol) (rows (now (book .entry))) ⌝ }
 {
-    first_of(
-        book,
-        dir,
-        group::of_fields(Kind::LOT, 0, 0, 0, account.0, 0, symbol),
-    )
+    first_of(book, dir, group::lots_of(account, symbol))
 }
 
 // The place of the next lot after one, the number of places where there is none.
@@ -57,10 +53,5 @@ pub fn next_lot(book: &[u8], dir: &[u16], account: AccountNo, symbol: Symbol, at
         r ≡ seek (lotOf (account .0) symbol) (at + 1) (drop (at + 1) (rows (now (book .entry))))
         ⌝ }
 {
-    next_of(
-        book,
-        dir,
-        group::of_fields(Kind::LOT, 0, 0, 0, account.0, 0, symbol),
-        at,
-    )
+    next_of(book, dir, group::lots_of(account, symbol), at)
 }

@@ -33,11 +33,7 @@ pub fn first_request(book: &[u8], dir: &[u16], symbol: Symbol) -> usize
     requires { ⌜ Listed (now book) (now dir) ⌝ }
     ensures { λ r. ⌜ r ≡ place (requestOn symbol) (rows (now (book .entry))) ⌝ }
 {
-    first_of(
-        book,
-        dir,
-        group::of_fields(Kind::REQUEST, 0, 0, 0, 0, 0, symbol),
-    )
+    first_of(book, dir, group::requests_of(symbol))
 }
 
 // The place of the next request after one, the number of places where there is none.
@@ -46,10 +42,5 @@ pub fn next_request(book: &[u8], dir: &[u16], symbol: Symbol, at: usize) -> usiz
     requires { ⌜ (at < places (now book)) × (requestOn symbol (rowAt (now book) at) ≡ true) ⌝ }
     ensures { λ r. ⌜ r ≡ seek (requestOn symbol) (at + 1) (drop (at + 1) (rows (now (book .entry)))) ⌝ }
 {
-    next_of(
-        book,
-        dir,
-        group::of_fields(Kind::REQUEST, 0, 0, 0, 0, 0, symbol),
-        at,
-    )
+    next_of(book, dir, group::requests_of(symbol), at)
 }

@@ -64,15 +64,7 @@ pub fn overlapping(book: &[u8], dir: &[u16], i: usize) -> usize
     let n = book.len() / Grid::SIZE;
     let band = Band::from_bytes(part(book, i));
     let mut sum = 0;
-    let bands = group::of_fields(
-        Kind::BAND,
-        band.trade_type,
-        band.tier,
-        band.exchange,
-        0,
-        0,
-        Symbol::NONE,
-    );
+    let bands = group::bands_of(band.trade_type, band.tier, band.exchange);
     let mut c = group::first(dir, bands);
     while c < n {
         sum += bit(overlaps(book, band, c));
@@ -104,7 +96,7 @@ pub fn rates(book: &[u8], dir: &[u16], customer: CustomerNo) -> u64
 {
     let n = book.len() / Grid::SIZE;
     let mut sum = 0;
-    let named = group::of_fields(Kind::CUSTOMER_RATE, 0, 0, 0, customer.0, 0, Symbol::NONE);
+    let named = group::rates_of(customer);
     let mut c = group::first(dir, named);
     while c < n {
         sum += rate(book, dir, customer, c);
@@ -177,7 +169,7 @@ pub fn holding(book: &[u8], dir: &[u16], account: AccountNo, symbol: Symbol) -> 
     let mut many = 0;
     let mut long = Shares(0);
     let mut owed = Shares(0);
-    let lots = group::of_fields(Kind::LOT, 0, 0, 0, account.0, 0, symbol);
+    let lots = group::lots_of(account, symbol);
     let mut at = group::first(dir, lots);
     while at < n {
         let more = added(book, account, symbol, at);

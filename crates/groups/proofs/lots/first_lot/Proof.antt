@@ -7,10 +7,10 @@ use Rattle.groups.proofs.lots.first_lot.Tie as tie
 first-of-requires : tie.Need-first-of-requires
 first-of-requires c κs =
     let start = c .before .before .before in
-    (start .pre, rw (c .of-fields .ensures) (lots-grouped (start .args .account .0) (start .args .symbol)))
+    (start .pre, rw (c .lots-of .ensures) (lots-grouped (start .args .account .0) (start .args .symbol)))
 
 returns : tie.Need-returns
-returns c = rw (c .before .of-fields .ensures) at (c .first-of .ensures)
+returns c = rw (c .before .lots-of .ensures) at (c .first-of .ensures)
 
 pub first-lot-spec : {M : Type 1} → statement M
 first-lot-spec = tie.close (tie.spec (λ c κs. search needs) first-of-requires returns)

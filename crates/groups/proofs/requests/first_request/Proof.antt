@@ -7,10 +7,10 @@ use Rattle.groups.proofs.requests.first_request.Tie as tie
 first-of-requires : tie.Need-first-of-requires
 first-of-requires c κs =
     let start = c .before .before .before in
-    (start .pre, rw (c .of-fields .ensures) (requests-grouped (start .args .symbol)))
+    (start .pre, rw (c .requests-of .ensures) (requests-grouped (start .args .symbol)))
 
 returns : tie.Need-returns
-returns c = rw (c .before .of-fields .ensures) at (c .first-of .ensures)
+returns c = rw (c .before .requests-of .ensures) at (c .first-of .ensures)
 
 pub first-request-spec : {M : Type 1} → statement M
 first-request-spec = tie.close (tie.spec (λ c κs. search needs) first-of-requires returns)

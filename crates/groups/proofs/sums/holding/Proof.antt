@@ -32,7 +32,7 @@ loop-holds c =
     let s = start .pre .0 in
     let a = start .args .account .0 in
     let y = start .args .symbol in
-    let g = c .before .of-fields .ensures in
+    let g = c .before .lots-of .ensures in
     let e = c .first .ensures in (
       tally-start s _ 1 (lots-counted a y) g e,
       (
