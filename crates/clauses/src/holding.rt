@@ -13,7 +13,6 @@ use directory::typed;
 use groups::sums::holding;
 use groups::sums::overlapping;
 use groups::sums::rates;
-use kinds::limits::Ranges;
 use kinds::rows::Customer;
 use kinds::rows::Lot;
 use kinds::rows::Summary;
@@ -37,7 +36,7 @@ pub fn rates_fit(book: &[u8], dir: &[u16], i: usize) -> bool
     ensures { λ b. ⌜ b ≡ ratesFit (rows (now (book .entry))) (rowAt (now (book .entry)) i) ⌝ }
 {
     let c = Customer::from_bytes(part(book, i));
-    rates(book, dir, c.no) <= Ranges::RATE_MOST as u64
+    rates(book, dir, c.no).fit()
 }
 
 // The lot at i, of the trade at p.

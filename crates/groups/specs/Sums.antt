@@ -166,12 +166,12 @@ module _ (rs : List Row) (customer : ℕ) (r : Row) {k : ℕ} {x : CustomerRate}
   unfolding customerRateOf
   rate-test = rw (is-x, kind)
 
-  pub rate-yes : {t : TaxRate} {y : ℕ} → (eqb k kindCustomerRate && eqb (x .customer .0) customer) ≡ true
-      → t ≡ taxRateOf (found (aTaxRate (x .rate .0)) rs) → y ≡ t .rate .0 → y ≡ rateOf rs customer r
+  pub rate-yes : {t : TaxRate} → (eqb k kindCustomerRate && eqb (x .customer .0) customer) ≡ true
+      → t ≡ taxRateOf (found (aTaxRate (x .rate .0)) rs) → t .rate .0 ≡ rateOf rs customer r
   unfolding customerRateOf taxRateOf
-  rate-yes e h q =
+  rate-yes e h =
       let rate : x .rate .0 ≡ r .n1 = rw is-x in
-      rw (sym rate-test ∙ e) (q ∙ rw (h, rate))
+      rw (sym rate-test ∙ e) (rw (h, rate))
 
   pub rate-no : (eqb k kindCustomerRate && eqb (x .customer .0) customer) ≡ false
       → 0 ≡ rateOf rs customer r

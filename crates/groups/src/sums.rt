@@ -1,7 +1,8 @@
 // Counts and sums over the rows of one group.
 ghost use mathlib.Core.Path.{_≡_};
 ghost use mathlib.Core.Bool.{false, true};
-ghost use Prim.Native.Nat.{_≤_, _<_};
+ghost use Prim.Native.Nat.{_+_, _^_, _≤_, _<_};
+ghost use lib.Dec.{leb};
 ghost use lib.IntN.{pos};
 ghost use lib.Signed.{ltZ};
 ghost use Rattle.laws.specs.Search.{bit, count};
@@ -16,6 +17,7 @@ use crate::lots::in_holding;
 use chains::chain::next;
 use chains::group;
 use directory::typed::tax_rate;
+use kinds::limits::Ranges;
 use kinds::rows::Band;
 use kinds::rows::CustomerRate;
 use kinds::rows::Lot;
@@ -73,33 +75,58 @@ pub fn overlapping(book: &[u8], dir: &[u16], i: usize) -> usize
     sum
 }
 
+// A sum of tax rates, which may be more than any rate is.
+pub struct RateSum(u64);
+
+impl RateSum {
+    fn plus(self, more: PerHundredThousand) -> RateSum
+        requires { ⌜ self .0 + more .0 < 2 ^ 64 ⌝ }
+        ensures { λ r. ⌜ r .0 ≡ self .0 + more .0 ⌝ }
+    {
+        RateSum(self.0 + wide32(more.0))
+    }
+
+    // At most 100 percent.
+    pub fn fit(self) -> bool
+        ensures { λ b. ⌜ b ≡ leb (self .0) (taxPart .high) ⌝ }
+    {
+        self.0 <= Ranges::RATE_MOST as u64
+    }
+
+    // The sum as a rate, where it is one.
+    fn rate(self) -> PerHundredThousand
+        requires { ⌜ self .0 ≤ taxPart .high ⌝ }
+        ensures { λ r. ⌜ r .0 ≡ self .0 ⌝ }
+    {
+        PerHundredThousand(self.0 as u32)
+    }
+}
+
 // What the record at a place adds to a customer's rates.
-fn rate(book: &[u8], dir: &[u16], customer: CustomerNo, at: usize) -> u64
+fn rate(book: &[u8], dir: &[u16], customer: CustomerNo, at: usize) -> PerHundredThousand
     requires { ⌜ Listed (now book) (now dir) × (at < places (now book)) ⌝ }
-    ensures { λ r. ⌜
-        (r ≡ rateOf (rows (now (book .entry))) (customer .0) (rowAt (now (book .entry)) at)) × (r ≤ 4294967295)
-        ⌝ }
+    ensures { λ r. ⌜ r .0 ≡ rateOf (rows (now (book .entry))) (customer .0) (rowAt (now (book .entry)) at) ⌝ }
 {
     let record = part(book, at);
     let named = CustomerRate::from_bytes(record);
     if (record[Grid::KIND] == Kind::CUSTOMER_RATE) & (named.customer.0 == customer.0) {
         let bytes = record_at(book, tax_rate(book, dir, named.rate));
-        return wide32(TaxRate::from_bytes(&bytes).rate.0);
+        return TaxRate::from_bytes(&bytes).rate;
     }
-    0
+    PerHundredThousand(0)
 }
 
 // The sum of a customer's rates.
-pub fn rates(book: &[u8], dir: &[u16], customer: CustomerNo) -> u64
+pub fn rates(book: &[u8], dir: &[u16], customer: CustomerNo) -> RateSum
     requires { ⌜ Listed (now book) (now dir) ⌝ }
-    ensures { λ r. ⌜ r ≡ ratesOf (rows (now (book .entry))) (customer .0) ⌝ }
+    ensures { λ r. ⌜ r .0 ≡ ratesOf (rows (now (book .entry))) (customer .0) ⌝ }
 {
     let n = book.len() / Grid::SIZE;
-    let mut sum = 0;
+    let mut sum = RateSum(0);
     let named = group::rates_of(customer);
     let mut c = group::first(dir, named);
     while c < n {
-        sum += rate(book, dir, customer, c);
+        sum = sum.plus(rate(book, dir, customer, c));
         c = next(dir, c);
     }
     sum
@@ -111,7 +138,7 @@ pub fn tax_rates(book: &[u8], dir: &[u16], customer: CustomerNo) -> PerHundredTh
     requires { ⌜ ratesOf (rows (now book)) (customer .0) ≤ taxPart .high ⌝ }
     ensures { λ r. ⌜ r .0 ≡ ratesOf (rows (now (book .entry))) (customer .0) ⌝ }
 {
-    PerHundredThousand(rates(book, dir, customer) as u32)
+    rates(book, dir, customer).rate()
 }
 
 // A holding: how many lots, and the shares held and owed.

@@ -8,10 +8,11 @@ use Rattle.clauses.proofs.holding.rates_fit.Tie as tie
 returns : tie.Need-returns
 unfolding customerOf
 returns c =
-    let row = c .before .from-bytes .ensures ∙ ap customerOf (c .before .before .part .ensures .1) in
-    rw (c .rates .ensures, row)
+    let at-rates = c .before in
+    let row = at-rates .before .from-bytes .ensures ∙ ap customerOf (at-rates .before .before .part .ensures .1) in
+    rw (c .fit .ensures, at-rates .rates .ensures, row)
 
 pub rates-fit-spec : {M : Type 1} → statement M
 rates-fit-spec =
     tie.close
-    (tie.spec (λ c κs. search needs) (λ c κs. search needs) (λ c κs. search needs) (λ c. search needs) returns)
+    (tie.spec (λ c κs. search needs) (λ c κs. search needs) (λ c κs. search needs) (λ c κs. search needs) returns)
