@@ -7,16 +7,27 @@ use Prim.Native.Nat.{ℕ, suc, _+_, _-_, _*_, _/_, _%_, _≤_, _<_}
 use native.Mathlib.Numerals.{add-one}
 use native.Mathlib.Omega.{arith}
 use lib.Dec.{eqb, leb, ltb}
-use lib.ListN.{length, take}
-use lib.Seq.{slice, slice-cons, slice-empty}
+use lib.IntN.{pos, natAbs, _+ℤ_}
+use lib.ListN.{length, take, drop, getD}
+use lib.Seq.{getD-drop, getD-take, slice, slice-cons, slice-empty}
 use borrow.Author.Needs.{needs}
-use borrow.Author.Tests.{le-leb, leb-true, lt-leb}
+use borrow.Author.Tests.{eqb-true, le-leb, leb-true, ltb-false, ltb-true}
+use mir.Facts.{toZ-pos}
+use mir.Syntax.{w64}
+use mir.Val.{toZ}
+use Rattle.laws.specs.Chunk.{part}
 use Rattle.laws.specs.Search.{count, every, place, run, total}
-use Rattle.laws.specs.Tests.{and-right, one-truth}
+use Rattle.laws.specs.Tests.{and-left, and-right}
+use Rattle.record.specs.Bytes.{Bytes}
+use Rattle.record.specs.Codes.{kindSecurity}
+use Rattle.record.specs.Grid.{decode}
+use Rattle.record.specs.Signed.{up}
 use Rattle.record.specs.Symbol.{sameSymbol}
 use Rattle.record.specs.declared.row.Row.{Row}
 use Rattle.record.specs.declared.symbol.Symbol.{Symbol}
+use Rattle.rules.specs.Meaning.{means-security}
 use Rattle.rules.specs.Ranges.{volume}
+use Rattle.rules.specs.Rules.{as-kind}
 use Rattle.model.specs.declared.Status.{Status}
 use Rattle.model.specs.declared.Status.the-variants.{Done, FeedNoSecurity, NoRoom, OverLimit}
 use Rattle.model.specs.Status.{isDone}
@@ -24,17 +35,23 @@ use Rattle.model.specs.Call.{mostInputs}
 use Rattle.model.specs.Feed.{checks, fed, volumesFit}
 use Rattle.model.specs.Names.{aSecurity}
 use Rattle.model.specs.Plan.{also, room, verdict}
-use Rattle.model.specs.Rows.{found, hasKey, nothing, rows, there, wholeRecords}
+use Rattle.model.specs.Rows.{found, hasKey, is, nothing, rows, there, wholeRecords}
 use Rattle.model.specs.Sound.{sound}
 use Rattle.facts.specs.Rows.{length-rows}
 use Rattle.facts.specs.Feed.{sharesFor, volumes-fit}
 use Rattle.facts.specs.Checks.{passed}
-use Rattle.places.specs.Loop.{loops}
-use Rattle.places.specs.Rows.{rowAt}
+use Rattle.facts.specs.Found.{sound-s1, the-most}
+use Rattle.facts.specs.Names.{by-symbol}
+use Rattle.places.specs.Loop.{Summed, loops, sum-all, sum-more, sum-start}
+use Rattle.places.specs.Rows.{rowAt, rows-at, rows-past}
 use Rattle.directory.specs.Found.{key-row, key-there}
 use Rattle.kinds.specs.Inputs.{feedInputOf}
+use Rattle.kinds.specs.Kinds.{securityOf}
+use Rattle.kinds.specs.Units.{shares, signedMost}
 use Rattle.kinds.specs.declared.inputs.FeedInput.{FeedInput}
 use Rattle.kinds.specs.declared.rows.Request.{Request}
+use Rattle.kinds.specs.declared.rows.Security.{Security}
+use Rattle.kinds.specs.declared.units.Shares.{Shares}
 use Rattle.hits.specs.Hits.{anyReaches, due, reaches}
 use Rattle.hits.specs.Due.{trades-due}
 
@@ -45,6 +62,21 @@ volumeFits rs es e = leb (found (aSecurity (e .symbol)) rs .m1 + sharesFor (e .s
 -- the shares of all entries; those on one symbol are no more
 unfoldable pub sharesIn : List Row → ℕ
 sharesIn es = total (λ (e : Row). e .n2) es
+
+-- those of an entry, if it is on a symbol
+abbrev pub sharesOn : Symbol → Row → ℕ
+sharesOn y e = cond (sameSymbol (e .symbol) y) (e .n2) 0
+
+-- what four bytes hold, and the most that the entries come to
+abbrev pub entryMost : ℕ
+entryMost = 4_294_967_295
+
+abbrev pub entriesMost : ℕ
+entriesMost = entryMost * mostInputs
+
+-- so many shares, which are at most so many
+abbrev pub Many : ℕ → ℕ → Shares → Type 0
+Many most n x = (x .0 ≡ pos n) × (n ≤ most)
 
 pub shares-most : (y : Symbol) (es : List Row) → sharesFor y es ≤ sharesIn es
 unfolding sharesFor sharesIn total
@@ -120,54 +152,128 @@ few-inputs n w =
     let h = leb-true n (mostInputs * 64) (and-right (leb 64 n && eqb (n % 64) 0) (leb n (mostInputs * 64)) w) in
     omega arith
 
--- of an entry that is read, those that count for a symbol
-module _ (y : Symbol) {r e : Row} {x : Bool} (a : r ≡ e) (h : x ≡ sameSymbol (r .symbol) y) where
-  told : sameSymbol (e .symbol) y ≡ x
-  told = ap (λ (u : Row). sameSymbol (u .symbol) y) (sym a) ∙ sym h
+-- an entry's shares are four bytes
+entry-few : (b : List ℕ) (i : ℕ) → Bytes b → rowAt b i .n2 ≤ entryMost
+unfolding decode
+entry-few b i h = go (ltb i (length b / 64)) refl
+  where
+    byte : (j : ℕ) → j < 64 → getD (part 64 i b) j 0 < 256
+    byte j l = rw (getD-take 64 (drop (i * 64) b) j 0 l, getD-drop) (h (i * 64 + j))
 
-  pub shares-on : x ≡ true → r .n2 ≡ cond (sameSymbol (e .symbol) y) (e .n2) 0
-  shares-on t = rw (told ∙ t) (ap (λ (u : Row). u .n2) a)
+    go : (t : Bool) → ltb i (length b / 64) ≡ t → rowAt b i .n2 ≤ entryMost
+    go true e =
+        let c0 = byte 28 (omega arith) in
+        let c1 = byte 29 (omega arith) in
+        let c2 = byte 30 (omega arith) in
+        let c3 = byte 31 (omega arith) in
+        rw (rows-at b i (ltb-true i (length b / 64) e)) (omega arith)
+    go false e = rw (rows-past b i (ltb-false i (length b / 64) e)) (omega arith)
 
-  pub shares-off : x ≡ false → 0 ≡ cond (sameSymbol (e .symbol) y) (e .n2) 0
-  shares-off t = rw (told ∙ t)
-
--- the sum of both, which may leave the machine's range, is not formed
-module _ (b input : List ℕ) (i : ℕ) {u : FeedInput} (a : u ≡ feedInputOf (rowAt input i)) where
-  abbrev e : Row
-  e = rowAt input i
-
-  on : u .symbol ≡ e .symbol
+-- of an entry that is read, all, and those that count for a symbol
+module _ (b : List ℕ) (i : ℕ) (h : Bytes b) {u : FeedInput} (a : u ≡ feedInputOf (rowAt b i)) where
+  pub shares-read : Many entryMost (rowAt b i .n2) (u .shares)
   unfolding feedInputOf
-  on = ap (λ (x : FeedInput). x .symbol) a
+  shares-read = (ap (λ (x : FeedInput). x .shares .0) a, entry-few b i h)
 
-  pub volume-in : {s x : ℕ} {r : Row} → s ≡ sharesFor (u .symbol) (rows input)
-      → x ≡ place (hasKey (aSecurity (u .symbol))) (rows b) → r ≡ rowAt b x → s ≤ volume .high
-      → leb (r .m1) (volume .high - s) ≡ volumeFits (rows b) (rows input) e
-  unfolding volumeFits
-  volume-in {s} {x} {r} f p q h =
-      let m = r .m1 in
-      rw (← on, ← key-row (aSecurity (u .symbol)) b p q, ← f)
-      (one-truth (leb m (volume .high - s)) (leb (m + s) (volume .high))
-      (λ t. let l = leb-true m (volume .high - s) t in le-leb (m + s) (volume .high) (omega arith))
-      (λ t. let l = leb-true (m + s) (volume .high) t in le-leb m (volume .high - s) (omega arith)))
+  module _ (y : Symbol) {x : Bool} (q : x ≡ sameSymbol (u .symbol) y) where
+    told : sameSymbol (rowAt b i .symbol) y ≡ x
+    unfolding feedInputOf
+    told = ap (λ (v : FeedInput). sameSymbol (v .symbol) y) (sym a) ∙ sym q
 
-  pub volume-under : {s x : ℕ} {r : Row} → s ≡ sharesIn (rows input)
-      → x ≡ place (hasKey (aSecurity (u .symbol))) (rows b) → r ≡ rowAt b x → s ≤ volume .high → r .m1 ≤ volume .high - s
-      → true ≡ volumeFits (rows b) (rows input) e
-  unfolding volumeFits
-  volume-under {s} {x} {r} f p q h l =
-      let most : sharesFor (u .symbol) (rows input) ≤ s = rw f (shares-most (u .symbol) (rows input)) in
-      rw (← on, ← key-row (aSecurity (u .symbol)) b p q)
-      (sym (le-leb (r .m1 + sharesFor (u .symbol) (rows input)) (volume .high) (omega arith)))
+    pub shares-here : x ≡ true → Many entryMost (sharesOn y (rowAt b i)) (u .shares)
+    shares-here t = rw (told ∙ t) shares-read
 
-  pub volume-out : {s : ℕ} → s ≡ sharesFor (u .symbol) (rows input) → volume .high < s
-      → false ≡ volumeFits (rows b) (rows input) e
+    pub shares-none : x ≡ false → Many entryMost (sharesOn y (rowAt b i)) (shares (pos 0))
+    shares-none t = rw (told ∙ t) (refl, omega arith)
+
+-- the shares of the entries before i, and of what is left
+pub record Adding (f : Row → ℕ) (b : List ℕ) (w : ℕ) (x : Shares) (i : ℕ) : Type 0 where
+  pub sum : Summed f entryMost b w (up (x .0)) i
+  pub whole : x .0 ≡ pos (up (x .0))
+
+pub add-start : (f : Row → ℕ) (b : List ℕ) → Adding f b (total f (rows b)) (shares (pos 0)) 0
+add-start f b = record { sum = sum-start f entryMost b; whole = refl }
+
+-- two counts have a sum
+pub both-fit : {m k a b : ℕ} {x y : Shares} → Many m a x → Many k b y → m + k ≤ signedMost
+    → natAbs (x .0) + natAbs (y .0) ≤ signedMost
+both-fit {m} {k} {a} {b} {x} {y} p q h =
+    let e : natAbs (x .0) ≡ a = ap natAbs (p .0) in
+    let f : natAbs (y .0) ≡ b = ap natAbs (q .0) in
+    let l = p .1 in
+    let r = q .1 in
+    omega arith
+
+module _ {f : Row → ℕ} {b : List ℕ} {w : ℕ} {x : Shares} {i : ℕ} (s : Adding f b w x i)
+    (few : wholeRecords mostInputs (length b) ≡ true) where
+  pub add-size : Many entriesMost (up (x .0)) x
+  add-size =
+      let n = few-inputs (length b) few in
+      let within = s .sum .within in
+      let small = s .sum .small in
+      (s .whole, omega arith)
+
+  pub add-more : {y z : Shares} → i < length b / 64 → Many entryMost (f (rowAt b i)) y → z ≡ shares (x .0 +ℤ y .0)
+      → Adding f b w z (i + 1)
+  add-more {y} {z} h m e =
+      let p = f (rowAt b i) in
+      let both : x .0 +ℤ y .0 ≡ pos (up (x .0)) +ℤ pos p = λ j. s .whole j +ℤ m .0 j in
+      let sum-is : z .0 ≡ pos (up (x .0) + p) = ap (λ (v : Shares). v .0) e ∙ both in
+      record { sum = rw sum-is (sum-more (s .sum) h refl refl (m .1)); whole = rw sum-is }
+
+  pub add-all : length b / 64 ≤ i → Many entriesMost w x
+  add-all h =
+      let e = sum-all (s .sum) h in
+      (s .whole ∙ ap pos e, rw (← e) (add-size .1))
+
+-- ---- a volume
+-- a security's is in its range in a sound book
+volume-most : (rs : List Row) (y : Symbol) → sound rs ≡ true → found (aSecurity y) rs .m1 ≤ volume .high
+unfolding found
+volume-most rs y e =
+    the-most (hasKey (aSecurity y)) (λ (r : Row). r .m1) (volume .high) rs (sound-s1 rs e)
+    (λ r f h.
+    let own = and-left (is kindSecurity r) (sameSymbol (r .symbol) y) (sym (by-symbol y r) ∙ h) in
+    let k = eqb-true (r .kind) kindSecurity own in
+    means-security r .shows (as-kind kindSecurity r k ∙ f) .0 .2 .2 .2 .2 .2 .2 .2 .2 .2 .2 .2 .1)
+    (omega arith)
+
+pub volume-read : (b : List ℕ) (y : Symbol) {x : ℕ} {r : Row} {s : Security} → sound (rows b) ≡ true
+    → x ≡ place (hasKey (aSecurity y)) (rows b) → r ≡ rowAt b x → s ≡ securityOf r
+    → Many (volume .high) (found (aSecurity y) (rows b) .m1) (s .volume)
+unfolding securityOf
+volume-read b y {x} {r} {s} e p q h =
+    let m = found (aSecurity y) (rows b) .m1 in
+    let most = volume-most (rows b) y e in
+    let read : s .volume .0 ≡ toZ w64 m = rw (h, key-row (aSecurity y) b p q) in
+    (read ∙ toZ-pos w64 {n = m} (omega arith), most)
+
+-- with the shares of the entries on the symbol, or with those of all where that is not too many
+module _ (b input : List ℕ) (i : ℕ) {u : FeedInput} (a : u ≡ feedInputOf (rowAt input i)) {x y z : Shares} {k t : ℕ}
+    (v : Many (volume .high) (found (aSecurity (u .symbol)) (rows b) .m1) x) (q : Many k t y)
+    (e : z ≡ shares (x .0 +ℤ y .0)) where
+  on : u .symbol ≡ rowAt input i .symbol
+  unfolding feedInputOf
+  on = ap (λ (w : FeedInput). w .symbol) a
+
+  after : up (z .0) ≡ found (aSecurity (u .symbol)) (rows b) .m1 + t
+  after = ap (λ (w : Shares). up (w .0)) e ∙ (λ j. up (v .0 j +ℤ q .0 j))
+
+  pub volume-in : {c : Bool} → t ≡ sharesFor (u .symbol) (rows input) → c ≡ leb (up (z .0)) (volume .high)
+      → c ≡ volumeFits (rows b) (rows input) (rowAt input i)
   unfolding volumeFits
-  volume-out {s} f h =
-      rw (← on) (go (found (aSecurity (u .symbol)) (rows b) .m1) (sharesFor (u .symbol) (rows input)) (rw f at h))
-    where
-      go : (m k : ℕ) → volume .high < k → false ≡ leb (m + k) (volume .high)
-      go m k l = sym (lt-leb (m + k) (volume .high) (omega arith))
+  volume-in g h = h ∙ rw (after, g, on)
+
+  pub volume-under : {c : Bool} → t ≡ sharesIn (rows input) → c ≡ leb (up (z .0)) (volume .high) → c ≡ true
+      → true ≡ volumeFits (rows b) (rows input) (rowAt input i)
+  unfolding volumeFits
+  volume-under g h l =
+      let m = found (aSecurity (u .symbol)) (rows b) .m1 in
+      let n = sharesFor (u .symbol) (rows input) in
+      let most : n ≤ t = rw g (shares-most (u .symbol) (rows input)) in
+      let all = leb-true (up (z .0)) (volume .high) (sym h ∙ l) in
+      let sum = after in
+      rw (← on) (sym (le-leb (m + n) (volume .high) (omega arith)))
 
 -- ---- the status: each check is that of the rules
 module _ (rs es : List Row) (good : sound rs ≡ true) where

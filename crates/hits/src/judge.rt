@@ -1,14 +1,15 @@
 // What a feed is refused for, told from the book at entry, and which entry is the first to hit a request.
 ghost use mathlib.Core.Path.{_≡_};
-ghost use mathlib.Core.Bool.{cond, true};
+ghost use mathlib.Core.Bool.{true};
 ghost use Prim.Native.Nat.{_<_, _≤_};
+ghost use lib.Dec.{leb};
 ghost use lib.ListN.{length, take};
 ghost use Rattle.laws.specs.Search.{count, every};
-ghost use Rattle.record.specs.Symbol.{sameSymbol};
+ghost use Rattle.record.specs.Signed.{up};
 ghost use Rattle.kinds.specs.Inputs.{feedInputOf};
 ghost use Rattle.rules.specs.Ranges.{volume};
 ghost use Rattle.model.specs.Call.{mostInputs};
-ghost use Rattle.model.specs.Rows.{rows, there, wholeRecords};
+ghost use Rattle.model.specs.Rows.{found, rows, there, wholeRecords};
 ghost use Rattle.model.specs.Names.{aSecurity};
 ghost use Rattle.model.specs.Plan.{verdict};
 ghost use Rattle.model.specs.Feed.{checks};
@@ -18,16 +19,17 @@ ghost use Rattle.places.specs.Rows.{rowAt};
 ghost use Rattle.directory.specs.Directory.{Directory};
 ghost use Rattle.directory.specs.Listed.{Listed, places};
 ghost use Rattle.hits.specs.Hits.{anyReaches, due, firstHit, reaches};
-ghost use Rattle.hits.specs.Judge.{allKnown, sharesIn, volumeFits};
+ghost use Rattle.hits.specs.Judge.{Many, allKnown, entriesMost, entryMost, sharesIn, sharesOn, volumeFits};
 use directory::build::places;
 use directory::totals::Totals;
 use directory::typed::security;
 use kinds::inputs::FeedInput;
 use kinds::limits::Ranges;
 use kinds::rows::Request;
+use kinds::rows::Security;
+use kinds::units::Shares;
 use model::Status;
 use places::place::record_at;
-use places::place::row_at;
 use record::codes::TradeType;
 use record::row::Grid;
 use record::symbol::Symbol;
@@ -109,77 +111,84 @@ fn all_known(book: &[u8], dir: &[u16], input: &[u8]) -> bool
 }
 
 // The shares of the entry at a place, if it is on the symbol.
-fn shares_at(input: &[u8], symbol: Symbol, i: usize) -> u64
-    ensures { λ r.
-        let e = rowAt (now (input .entry)) i in
-        ⌜ (r ≡ cond (sameSymbol (e .symbol) symbol) (e .n2) 0) × (r ≤ 4294967295) ⌝ }
+fn shares_at(input: &[u8], symbol: Symbol, i: usize) -> Shares
+    ensures { λ r. ⌜ Many entryMost (sharesOn symbol (rowAt (now (input .entry)) i)) r ⌝ }
 {
-    let entry = row_at(input, i);
+    let entry = entry_at(input, i);
     let own = entry.symbol;
-    if own.same(symbol) { entry.n2 as u64 } else { 0 }
+    if own.same(symbol) {
+        entry.shares
+    } else {
+        Shares(0)
+    }
 }
 
 // The shares of the entries on a symbol.
-fn shares_for(input: &[u8], symbol: Symbol) -> u64
+fn shares_for(input: &[u8], symbol: Symbol) -> Shares
     requires { ⌜ wholeRecords mostInputs (length (now input)) ≡ true ⌝ }
-    ensures { λ r. ⌜ r ≡ sharesFor symbol (rows (now (input .entry))) ⌝ }
+    ensures { λ r. ⌜ Many entriesMost (sharesFor symbol (rows (now (input .entry)))) r ⌝ }
 {
     let n = input.len() / Grid::SIZE;
-    let mut sum: u64 = 0;
+    let mut sum = Shares(0);
     let mut i = 0;
     while i < n {
-        sum += shares_at(input, symbol, i);
+        sum = sum.plus(shares_at(input, symbol, i));
         i += 1;
     }
     sum
-}
-
-// The shares of the entry at a place.
-fn shares_of(input: &[u8], i: usize) -> u64
-    ensures { λ r. ⌜ (r ≡ rowAt (now (input .entry)) i .n2) × (r ≤ 4294967295) ⌝ }
-{
-    row_at(input, i).n2 as u64
 }
 
 // The shares of all entries.
-fn shares_in(input: &[u8]) -> u64
+fn shares_in(input: &[u8]) -> Shares
     requires { ⌜ wholeRecords mostInputs (length (now input)) ≡ true ⌝ }
-    ensures { λ r. ⌜ (r ≡ sharesIn (rows (now (input .entry)))) × (r ≤ volume .high) ⌝ }
+    ensures { λ r. ⌜ Many entriesMost (sharesIn (rows (now (input .entry)))) r ⌝ }
 {
     let n = input.len() / Grid::SIZE;
-    let mut sum: u64 = 0;
+    let mut sum = Shares(0);
     let mut i = 0;
     while i < n {
-        sum += shares_of(input, i);
+        sum = sum.plus(entry_at(input, i).shares);
         i += 1;
     }
     sum
 }
 
-// The volume of the security of the entry at a place stays in its range. Those on its symbol are summed only where the
-// shares of all entries might be too many.
-fn volume_fits(book: &[u8], dir: &[u16], input: &[u8], all: u64, i: usize) -> bool
-    requires { ⌜ Listed (now book) (now dir) ⌝ }
+// The volume of a security, 0 where it is not there.
+fn volume_of(book: &[u8], dir: &[u16], symbol: Symbol) -> Shares
+    requires { ⌜ Listed (now book) (now dir) × (sound (rows (now book)) ≡ true) ⌝ }
+    ensures { λ r. ⌜ Many (volume .high) (found (aSecurity symbol) (rows (now (book .entry))) .m1) r ⌝ }
+{
+    let record = record_at(book, security(book, dir, symbol));
+    Security::from_bytes(&record).volume
+}
+
+// A volume is in its range.
+fn in_range(after: Shares) -> bool
+    ensures { λ b. ⌜ b ≡ leb (up (after .0)) (volume .high) ⌝ }
+{
+    after.plain() <= Ranges::VOLUME_MOST
+}
+
+// The volume of the security of the entry at a place stays in its range. The shares on its symbol are summed only
+// where those of all entries might be too many.
+fn volume_fits(book: &[u8], dir: &[u16], input: &[u8], all: Shares, i: usize) -> bool
+    requires { ⌜ Listed (now book) (now dir) × (sound (rows (now book)) ≡ true) ⌝ }
     requires { ⌜ wholeRecords mostInputs (length (now input)) ≡ true ⌝ }
-    requires { ⌜ (all ≡ sharesIn (rows (now input))) × (all ≤ volume .high) ⌝ }
+    requires { ⌜ Many entriesMost (sharesIn (rows (now input))) all ⌝ }
     ensures { λ b.
         let entries = now (input .entry) in
         ⌜ b ≡ volumeFits (rows (now (book .entry))) (rows entries) (rowAt entries i) ⌝ }
 {
     let symbol = entry_at(input, i).symbol;
-    let security = row_at(book, security(book, dir, symbol));
-    if security.m1 <= Ranges::VOLUME_MOST - all {
+    let before = volume_of(book, dir, symbol);
+    if in_range(before.plus(all)) {
         return true;
     }
-    let more = shares_for(input, symbol);
-    if more <= Ranges::VOLUME_MOST {
-        return security.m1 <= Ranges::VOLUME_MOST - more;
-    }
-    false
+    in_range(before.plus(shares_for(input, symbol)))
 }
 
 fn volumes_fit(book: &[u8], dir: &[u16], input: &[u8]) -> bool
-    requires { ⌜ Listed (now book) (now dir) ⌝ }
+    requires { ⌜ Listed (now book) (now dir) × (sound (rows (now book)) ≡ true) ⌝ }
     requires { ⌜ wholeRecords mostInputs (length (now input)) ≡ true ⌝ }
     ensures { λ b.
         let entries = rows (now (input .entry)) in
