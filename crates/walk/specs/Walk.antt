@@ -23,7 +23,7 @@ use Rattle.rules.specs.Ranges.{priceMost, sharesMost}
 use Rattle.model.specs.Lots.{closings}
 use Rattle.model.specs.Lots
 use Rattle.model.specs.Money.{buys}
-use Rattle.money.specs.Amounts.{UpTo, valueMost}
+use Rattle.money.specs.Amounts.{UpTo, up-to, valueMost}
 use Rattle.walk.specs.declared.Walk.{Walk}
 
 -- ---- over typed lots
@@ -32,6 +32,11 @@ sizeOf l = natAbs (l .shares .0)
 
 abbrev pub takenOf : Walk → Lot → ℕ
 takenOf w l = min (up (w .need .0)) (sizeOf l)
+
+-- the least of two counts, as shares
+pub taken-is : (m k : ℕ) {n : ℕ} {r : Shares} → r ≡ shares (pos n) → n ≡ min m k
+    → (r ≡ shares (pos (min m k))) × UpTo m (r .0)
+taken-is m k f e = rw (f, e) (refl, up-to _ _ (omega arith))
 
 abbrev pub restOf : Walk → Lot → ℕ
 restOf w l = sizeOf l - takenOf w l

@@ -3,7 +3,7 @@
 // each.
 ghost use mathlib.Core.Bool.{cond};
 ghost use mathlib.Core.Path.{_≡_};
-ghost use Prim.Native.Nat.{_+_, _*_, _<_, _≤_, min};
+ghost use Prim.Native.Nat.{_+_, _*_, _<_, _≤_};
 ghost use lib.Dec.{eqb};
 ghost use lib.IntN.{natAbs, pos};
 ghost use Rattle.record.specs.Signed.{up};
@@ -18,12 +18,6 @@ use kinds::units::Price;
 use kinds::units::Shares;
 use money::fees::value;
 use money::sides::buys;
-
-fn least(a: u64, b: u64) -> u64
-    ensures { λ r. ⌜ r ≡ min a b ⌝ }
-{
-    if a <= b { a } else { b }
-}
 
 fn either(first: bool, a: Price, b: Price) -> Price
     ensures { λ r. ⌜ r .0 ≡ cond first (a .0) (b .0) ⌝ }
@@ -83,7 +77,12 @@ impl Walk {
         ensures { λ r. ⌜ r ≡ shares (pos (takenOf self lot)) ⌝ }
         ensures { λ r. ⌜ UpTo (up (self .need .0)) (r .0) ⌝ }
     {
-        Shares::of(least(self.need.plain(), lot.shares.size()))
+        let need = self.need.plain();
+        let size = lot.shares.size();
+        if need <= size {
+            return Shares::of(need);
+        }
+        Shares::of(size)
     }
 
     // What is left of a lot, 0 where it goes.

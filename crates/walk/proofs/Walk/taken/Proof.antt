@@ -1,21 +1,18 @@
--- The least of the two counts, under its name; what is needed is a number of 64 bits with a sign. Assumes nothing.
-use borrow.Author.Needs.{needs}
-use mathlib.Core.Path.{refl}
+-- The least of the two counts; what is needed is a number of 64 bits with a sign. Assumes nothing.
 use native.Mathlib.Omega.{arith}
-use Rattle.money.specs.Amounts.{up-to}
+use Rattle.walk.specs.Walk.{taken-is}
+use borrow.Author.Needs.{needs}
 use Rattle.walk.proofs.Walk.taken.Statement.{statement}
 use Rattle.walk.proofs.Walk.taken.Tie as tie
 
-of-requires : tie.Need-of-requires
-of-requires c κs = omega arith
-
 returns : tie.Need-returns
-returns c =
-    let a = c .before in
-    rw (c .of .ensures .0, a .least .ensures, a .before .size .ensures, a .before .before .plain .ensures .0)
-    (refl, up-to _ _ (omega arith))
+returns c = taken-is _ _ (c .of .ensures .0) (omega arith)
+
+returns-2 : tie.Need-returns-2
+returns-2 c = taken-is _ _ (c .of2 .ensures .0) (omega arith)
 
 pub taken-spec : {M : Type 1} → statement M
 taken-spec =
     tie.close
-    (tie.spec (λ c κs. search needs) (λ c κs. search needs) (λ c κs. search needs) of-requires returns)
+    (tie.spec (λ c κs. search needs) (λ c κs. search needs) (λ c κs. search needs) returns (λ c κs. search needs)
+    returns-2)
