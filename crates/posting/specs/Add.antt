@@ -21,8 +21,8 @@ use Rattle.model.specs.Rows.{is}
 use Rattle.directory.specs.Added.{Added, Room, added-then, room-first, room-next}
 use Rattle.directory.specs.Directory.{Directory}
 use Rattle.directory.specs.declared.totals.Totals.{Totals}
-use Rattle.verdict.specs.declared.figures.Figures.{Figures}
-use Rattle.verdict.specs.declared.terms.Terms.{Terms}
+use Rattle.reading.specs.declared.terms.Terms.{Terms}
+use Rattle.figures.specs.declared.Figures.{Figures}
 
 -- a summary where there is none
 abbrev pub newHolding : Trade → Bool → Shares → List Row

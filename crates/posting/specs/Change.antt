@@ -20,8 +20,8 @@ use Rattle.places.specs.Rows.{putAt, rowAt}
 use Rattle.chains.specs.Group.{groupOf}
 use Rattle.directory.specs.Directory.{Directory}
 use Rattle.directory.specs.declared.totals.Totals.{Totals}
-use Rattle.verdict.specs.declared.figures.Figures.{Figures}
-use Rattle.verdict.specs.declared.terms.Terms.{Terms}
+use Rattle.reading.specs.declared.terms.Terms.{Terms}
+use Rattle.figures.specs.declared.Figures.{Figures}
 use Rattle.posting.specs.Turned.{Ready, Turned, may-go, may-stay, ready-first, ready-next, turned-none}
 use Rattle.posting.specs.Turned.{turned-one, turned-then}
 

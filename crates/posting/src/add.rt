@@ -16,6 +16,8 @@ use crate::rows::new_summary;
 use crate::rows::settlement_row;
 use directory::change::add;
 use directory::totals::Totals;
+use figures::Figures;
+use figures::is_cash;
 use kinds::inputs::ResultInput;
 use kinds::rows::Trade;
 use kinds::units::Cents;
@@ -23,9 +25,7 @@ use kinds::units::Price;
 use kinds::units::Shares;
 use kinds::units::Time;
 use money::sides::traded;
-use verdict::figures::Figures;
-use verdict::figures::is_cash;
-use verdict::terms::Terms;
+use reading::terms::Terms;
 
 // Shares left over open a new lot.
 fn add_opened(

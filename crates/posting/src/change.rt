@@ -11,12 +11,12 @@ use crate::rows::trade_after;
 use directory::change::change;
 use directory::change::free;
 use directory::totals::Totals;
+use figures::Figures;
+use figures::is_cash;
 use kinds::inputs::ResultInput;
 use kinds::units::Cents;
 use kinds::units::Shares;
-use verdict::figures::Figures;
-use verdict::figures::is_cash;
-use verdict::terms::Terms;
+use reading::terms::Terms;
 
 // A summary that does not come to zero follows in its place.
 fn change_summary(book: &mut [u8], dir: &[u16], t: Totals, terms: Terms, shares: Shares)

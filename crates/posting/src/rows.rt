@@ -11,6 +11,7 @@ ghost use Rattle.model.specs.Result.{answerRow, brokerAfter, cashRow, holding, 
 ghost use Rattle.model.specs.Result.{settlementRow, tradeAfter};
 ghost use Rattle.money.specs.Amounts.{UpTo};
 ghost use Rattle.posting.specs.Rows.{timeMost};
+use figures::Figures;
 use kinds::inputs::ResultInput;
 use kinds::limits::Ranges;
 use kinds::rows::Account;
@@ -32,7 +33,6 @@ use record::codes::Kind;
 use record::codes::TradeStatus;
 use record::row::Row;
 use record::symbol::Symbol;
-use verdict::figures::Figures;
 
 pub fn lot_history(lot: TradeNo, by: TradeNo, before: Shares, after: Shares) -> Row
     requires { ⌜ (natAbs (before .0) ≤ sharesMost) × (natAbs (after .0) ≤ sharesMost) ⌝ }

@@ -26,13 +26,13 @@ use Rattle.places.specs.Rows.{putAt}
 use Rattle.reply.specs.Left.{answerLeft, bookLeft, left-accepted, left-refused}
 use Rattle.directory.specs.Directory.{Directory}
 use Rattle.directory.specs.declared.totals.Totals.{Totals}
-use Rattle.verdict.specs.declared.figures.Figures.{Figures}
-use Rattle.verdict.specs.declared.terms.Terms.{Terms}
-use Rattle.verdict.specs.Figures.{figuresBy, figuresOf, walkOf}
+use Rattle.reading.specs.declared.terms.Terms.{Terms}
+use Rattle.reading.specs.Lots.{Held}
+use Rattle.reading.specs.Terms.{input-written, inputRow, termsOf}
+use Rattle.figures.specs.declared.Figures.{Figures}
+use Rattle.figures.specs.Figures.{figuresBy, figuresOf, walkOf}
+use Rattle.figures.specs.Reckoned.{Reckoned}
 use Rattle.verdict.specs.Judge.{judged, judgment, passed-all, resultRows, tests}
-use Rattle.verdict.specs.Lots.{Held}
-use Rattle.verdict.specs.Reckoned.{Reckoned}
-use Rattle.verdict.specs.Terms.{input-written, inputRow, termsOf}
 use Rattle.result.specs.Whole.{Posts}
 
 abbrev pub answerOf : Trade → Figures → Row

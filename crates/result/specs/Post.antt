@@ -38,11 +38,11 @@ use Rattle.facts.specs.Posted.{frees}
 use Rattle.facts.specs.Result.{Read, reads, writes}
 use Rattle.facts.specs.Sound.{named-there, names-account, names-broker}
 use Rattle.places.specs.Rows.{rowAt}
-use Rattle.verdict.specs.declared.figures.Figures.{Figures}
-use Rattle.verdict.specs.declared.terms.Terms.{Terms}
-use Rattle.verdict.specs.Figures.{figuresBy, figuresOf, walkOf}
+use Rattle.reading.specs.declared.terms.Terms.{Terms}
+use Rattle.reading.specs.Terms.{brokerRead, placesOf, termsOf}
+use Rattle.figures.specs.declared.Figures.{Figures}
+use Rattle.figures.specs.Figures.{figuresBy, figuresOf, walkOf}
 use Rattle.verdict.specs.Judge.{Passed}
-use Rattle.verdict.specs.Terms.{brokerRead, placesOf, termsOf}
 use Rattle.posting.specs.declared.close.Closed.{Closed}
 use Rattle.posting.specs.Add.{ownAdded}
 use Rattle.posting.specs.Change.{accountPut, brokerPut, changePuts, summaryFree, summaryPut, tradePut}

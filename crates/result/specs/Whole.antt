@@ -36,13 +36,13 @@ use Rattle.walk.specs.declared.Walk.{Walk}
 use Rattle.directory.specs.Added.{Added, Room, added-keeps, added-then, room-first, room-next, room-start}
 use Rattle.directory.specs.Directory.{Directory}
 use Rattle.directory.specs.declared.totals.Totals.{Totals}
-use Rattle.verdict.specs.declared.figures.Figures.{Figures}
-use Rattle.verdict.specs.declared.terms.Terms.{Terms}
-use Rattle.verdict.specs.Figures.{figuresOf}
+use Rattle.reading.specs.declared.terms.Terms.{Terms}
+use Rattle.reading.specs.Lots.{Held}
+use Rattle.reading.specs.Terms.{brokerRead, inputRow, termsOf}
+use Rattle.figures.specs.declared.Figures.{Figures}
+use Rattle.figures.specs.Figures.{figuresOf}
+use Rattle.figures.specs.Reckoned.{Reckoned}
 use Rattle.verdict.specs.Judge.{Passed, how-many, resultRows, total-read}
-use Rattle.verdict.specs.Lots.{Held}
-use Rattle.verdict.specs.Reckoned.{Reckoned}
-use Rattle.verdict.specs.Terms.{brokerRead, inputRow, termsOf}
 use Rattle.posting.specs.declared.close.Closed.{Closed}
 use Rattle.posting.specs.Add.{ownAdded}
 use Rattle.posting.specs.Change.{changePuts, summaryFree}

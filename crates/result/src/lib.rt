@@ -17,18 +17,18 @@ mod post;
 
 use crate::post::post;
 use directory::totals::Totals;
+use figures::Figures;
+use figures::reckoned;
 use kinds::inputs::ResultInput;
 use kinds::rows::Trade;
 use places::put::put;
 use posting::rows::answer_row;
+use reading::lots::lots_of;
+use reading::terms::terms_of;
 use reply::Ended;
 use reply::done;
 use sorted::Sorted;
-use verdict::figures::Figures;
-use verdict::figures::reckoned;
-use verdict::judge::judge;
-use verdict::lots::lots_of;
-use verdict::terms::terms_of;
+use verdict::judge;
 
 fn write_answer(answer: &mut [u8], trade: Trade, figures: Figures)
     ensures { λ _. ⌜ now (answer .exit) ≡ putAt (now (answer .entry)) 0 (answerOf trade figures) ⌝ }

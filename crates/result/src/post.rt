@@ -3,10 +3,11 @@
 ghost use mathlib.Core.Path.{_≡_};
 ghost use Rattle.model.specs.Rows.{rows};
 ghost use Rattle.directory.specs.Directory.{Directory};
+ghost use Rattle.reading.specs.Terms.{inputRow};
 ghost use Rattle.verdict.specs.Judge.{resultRows};
-ghost use Rattle.verdict.specs.Terms.{inputRow};
 ghost use Rattle.result.specs.Whole.{Posts};
 use directory::totals::Totals;
+use figures::Figures;
 use kinds::inputs::ResultInput;
 use posting::add::add_own;
 use posting::change::change_rows;
@@ -14,9 +15,8 @@ use posting::change::free_summary;
 use posting::close::add_closings;
 use posting::close::free_lots;
 use posting::close::reduce;
+use reading::terms::Terms;
 use sorted::Sorted;
-use verdict::figures::Figures;
-use verdict::terms::Terms;
 use walk::Walk;
 
 pub fn post(

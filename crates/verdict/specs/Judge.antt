@@ -39,10 +39,10 @@ use Rattle.model.specs.Result
 use Rattle.facts.specs.Checks.{passed}
 use Rattle.facts.specs.Found.{sound-s1, the-most}
 use Rattle.facts.specs.Keys.{key-kind}
-use Rattle.verdict.specs.declared.figures.Figures.{Figures}
-use Rattle.verdict.specs.declared.terms.Terms.{Terms}
-use Rattle.verdict.specs.Figures.{figuresBy, figuresOf, walkOf}
-use Rattle.verdict.specs.Terms.{brokerRead, termsOf}
+use Rattle.reading.specs.declared.terms.Terms.{Terms}
+use Rattle.reading.specs.Terms.{brokerRead, termsOf}
+use Rattle.figures.specs.declared.Figures.{Figures}
+use Rattle.figures.specs.Figures.{figuresBy, figuresOf, walkOf}
 
 -- ---- as the code has them
 -- the balance, the broker's trades and its commission total stay in their ranges

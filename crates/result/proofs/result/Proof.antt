@@ -2,7 +2,7 @@
 -- put. Assumes nothing.
 use mathlib.Core.Path.{_≡_}
 use lib.ListN.{length}
-use Rattle.verdict.specs.Lots.{holds}
+use Rattle.reading.specs.Lots.{holds}
 use Rattle.result.specs.Ended.{judge-asks, post-asks, result-done, result-refused, right-input}
 use borrow.Author.Needs.{needs}
 use Rattle.result.proofs.result.Statement.{statement}
