@@ -1,1 +1,1 @@
-pub mod Shell
+pub mod Lengths

@@ -1,37 +1,22 @@
 // The calls that C can reach. Whatever bytes and lengths a call is given, it ends, and every byte that it leaves is
 // promised.
 ghost use mathlib.Core.Path.{_≡_};
-ghost use mathlib.Core.Bool.{true};
-ghost use Prim.Native.Nat.{_*_, _<_};
-ghost use lib.ListN.{length};
-ghost use Rattle.model.specs.Status.{isDone};
-ghost use Rattle.model.specs.Call.{Promise, feedCall, lookupCall, mostInputs, orderCall, resultCall};
-ghost use Rattle.model.specs.Rows.{places, recordSize, rows, wholeRecords};
-ghost use Rattle.reply.specs.Left.{answerLeft, bookLeft};
-ghost use Rattle.book.specs.Shell.{Opened, Room, callOf, decideOf, fieldsOf, longOf, opening};
+ghost use Prim.Native.Nat.{_<_};
+ghost use Rattle.model.specs.Call.{Promise, feedCall, lookupCall, orderCall, resultCall};
+ghost use Rattle.model.specs.Rows.{places};
+ghost use Rattle.shell.specs.Shell.{callOf};
 use chains::chain::narrow;
-use directory::build::build;
-use directory::totals::Totals;
-use feed::feed;
-use inputs::all_feed;
-use inputs::all_lookup;
-use inputs::is_order;
-use inputs::is_result;
 use kinds::limits::Ranges;
-use kinds::units::TradeNo;
-use lookup::lookup;
 use model::Status;
-use order::order;
 use record::row::Grid;
-use reply::Ended;
 use reply::code;
-use reply::done;
-use reply::finish;
-use result::result;
+use shell::Call;
+use shell::long;
+use shell::looked;
+use shell::within;
 use sound::area::Large;
 use sound::area::Middle;
 use sound::area::Small;
-use sound::whole::sound_by;
 use sound::whole::whole;
 
 // The number of records, as a directory has it.
@@ -43,113 +28,6 @@ fn records(book: &[u8]) -> u16
         return narrow(n);
     }
     0
-}
-
-// No book is left by a check that fails, so its totals are of no use.
-fn refused(status: Status) -> Ended
-    ensures { λ r. ⌜ r .status ≡ status ⌝ }
-{
-    let totals = Totals {
-        free: 0,
-        largest: TradeNo(0),
-    };
-    Ended { status, totals }
-}
-
-// The checks of every call: the book's length, its soundness and the input's fields. Where they find no fault the
-// directory is the book's.
-fn opened(book: &[u8], inputs: bool, dir: &mut [u16]) -> Ended
-    requires { ⌜ Room (now book) (now dir) ⌝ }
-    ensures { λ r. ⌜ r .status ≡ opening inputs (now (book .entry)) ⌝ }
-    ensures { λ r.
-        ⌜ (isDone (r .status) ≡ true → Opened inputs (now (book .entry)) (now (dir .exit)) (r .totals)) ⌝ }
-{
-    if !whole(book.len(), Ranges::RECORDS) {
-        return refused(Status::BadBook);
-    }
-    let totals = build(book, dir);
-    if !sound_by(book, dir) {
-        return refused(Status::Unsound);
-    }
-    if !inputs {
-        return refused(Status::BadInput);
-    }
-    let status = Status::Done;
-    Ended { status, totals }
-}
-
-// The calls that change a book.
-enum Call {
-    Order,
-    Result,
-    Feed,
-}
-
-// The input has a length that the call takes.
-fn long(call: Call, input: usize) -> bool
-    ensures { λ r. ⌜ r ≡ longOf call input ⌝ }
-{
-    match call {
-        Call::Order => input == Grid::SIZE,
-        Call::Result => input == Grid::SIZE,
-        Call::Feed => whole(input, Ranges::INPUTS),
-    }
-}
-
-// Every field of the input keeps its rule.
-fn fields(call: Call, input: &[u8]) -> bool
-    requires { ⌜ longOf call (length (now input)) ≡ true ⌝ }
-    ensures { λ r. ⌜ r ≡ fieldsOf call (now (input .entry)) ⌝ }
-{
-    match call {
-        Call::Order => is_order(input),
-        Call::Result => is_result(input),
-        Call::Feed => all_feed(input),
-    }
-}
-
-// The inner call, on a book that no check refuses.
-fn decide(
-    call: Call,
-    book: &mut [u8],
-    dir: &mut [u16],
-    t: Totals,
-    input: &[u8],
-    answer: &mut [u8],
-) -> Ended
-    requires { ⌜ Opened (fieldsOf call (now input)) (now book) (now dir) t ⌝ }
-    requires { ⌜ (longOf call (length (now input)) ≡ true) × (length (now answer) ≡ recordSize) ⌝ }
-    ensures { λ r. ⌜ r .status ≡ decideOf call (now (input .entry)) (rows (now (book .entry))) .status ⌝ }
-    ensures { λ _.
-        ⌜ now (book .exit)
-        ≡ bookLeft (decideOf call (now (input .entry)) (rows (now (book .entry)))) (now (book .entry)) ⌝ }
-    ensures { λ _.
-        ⌜ now (answer .exit)
-        ≡ answerLeft (decideOf call (now (input .entry)) (rows (now (book .entry)))) (now (answer .entry)) ⌝ }
-{
-    match call {
-        Call::Order => order(book, dir, t, input, answer),
-        Call::Result => result(book, dir, t, input, answer),
-        Call::Feed => feed(book, dir, t, input, answer),
-    }
-}
-
-// The shell of a call that changes a book, around the inner call, where the lengths are right.
-fn within(call: Call, book: &mut [u8], dir: &mut [u16], input: &[u8], answer: &mut [u8]) -> i32
-    requires { ⌜ Room (now book) (now dir) ⌝ }
-    requires { ⌜ (longOf call (length (now input)) ≡ true) × (length (now answer) ≡ recordSize) ⌝ }
-    ensures { λ r.
-        ⌜ Promise (callOf call (now (book .entry)) (now (input .entry)) (now (answer .entry))) r (now (book .exit))
-        (now (answer .exit)) ⌝ }
-{
-    let begun = opened(book, fields(call, input), dir);
-    let s = begun.status;
-    if !done(s) {
-        return finish(answer, s);
-    }
-    let ended = decide(call, book, dir, begun.totals, input, answer);
-    let t = ended.status;
-    finish(answer, t)
 }
 
 // The lengths, and a directory of the book's size.
@@ -203,24 +81,6 @@ pub extern "C" fn book_feed(book: &mut [u8], input: &[u8], answer: &mut [u8]) ->
         (now (answer .exit)) ⌝ }
 {
     called(Call::Feed, book, input, answer)
-}
-
-// The shell of a lookup, which only reads the book, where the lengths are right.
-fn looked(book: &[u8], dir: &mut [u16], input: &[u8], answer: &mut [u8]) -> i32
-    requires { ⌜ Room (now book) (now dir) ⌝ }
-    requires { ⌜ (wholeRecords mostInputs (length (now input)) ≡ true)
-        × (length (now answer) ≡ 2 * length (now input)) ⌝ }
-    ensures { λ r.
-        ⌜ Promise (lookupCall (now (book .entry)) (now (input .entry)) (now (answer .entry))) r (now (book .entry))
-        (now (answer .exit)) ⌝ }
-{
-    let begun = opened(book, all_lookup(input), dir);
-    let s = begun.status;
-    if !done(s) {
-        return finish(answer, s);
-    }
-    let t = lookup(book, dir, input, answer);
-    finish(answer, t)
 }
 
 // Trade-Lookup by trade number.

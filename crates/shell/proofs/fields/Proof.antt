@@ -1,8 +1,8 @@
 -- Each call has its own arm. Assumes nothing.
 use borrow.Author.Tests.{eqb-true}
 use borrow.Author.Needs.{needs}
-use Rattle.book.proofs.fields.Statement.{statement}
-use Rattle.book.proofs.fields.Tie as tie
+use Rattle.shell.proofs.fields.Statement.{statement}
+use Rattle.shell.proofs.fields.Tie as tie
 
 is-order-requires : tie.Need-is-order-requires
 is-order-requires c κs = eqb-true _ _ (rw (c .enum-told .given .1) at (c .before .before .before .pre))

@@ -1,8 +1,8 @@
 -- Each call has its own arm, the inner call. Assumes nothing.
 use borrow.Author.Tests.{eqb-true}
 use borrow.Author.Needs.{needs}
-use Rattle.book.proofs.decide.Statement.{statement}
-use Rattle.book.proofs.decide.Tie as tie
+use Rattle.shell.proofs.decide.Statement.{statement}
+use Rattle.shell.proofs.decide.Tie as tie
 
 order-requires : tie.Need-order-requires
 order-requires c κs =

@@ -1,7 +1,7 @@
 -- Each call has its own arm. Assumes nothing.
 use borrow.Author.Needs.{needs}
-use Rattle.book.proofs.long.Statement.{statement}
-use Rattle.book.proofs.long.Tie as tie
+use Rattle.shell.proofs.long.Statement.{statement}
+use Rattle.shell.proofs.long.Tie as tie
 
 pub long-spec : {M : Type 1} → statement M
 long-spec =
