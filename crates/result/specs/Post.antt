@@ -43,10 +43,10 @@ use Rattle.reading.specs.Terms.{brokerRead, placesOf, termsOf}
 use Rattle.figures.specs.declared.Figures.{Figures}
 use Rattle.figures.specs.Figures.{figuresBy, figuresOf, walkOf}
 use Rattle.verdict.specs.Judge.{Passed}
-use Rattle.posting.specs.declared.close.Closed.{Closed}
-use Rattle.posting.specs.Add.{ownAdded}
-use Rattle.posting.specs.Change.{accountPut, brokerPut, changePuts, summaryFree, summaryPut, tradePut}
-use Rattle.posting.specs.Close.{freed, partPut}
+use Rattle.closed.specs.declared.Closed.{Closed}
+use Rattle.closed.specs.Close.{freed, partPut}
+use Rattle.added.specs.Add.{ownAdded}
+use Rattle.changed.specs.Change.{accountPut, brokerPut, changePuts, summaryFree, summaryPut, tradePut}
 use Rattle.result.specs.Place.{at-member, placed, spot, spot-at}
 
 -- ---- a row that is found stands where its key does

@@ -27,7 +27,7 @@ use Rattle.chains.specs.Group.{account-stays, broker-stays, groupOf, lot-stays,
 use Rattle.directory.specs.Directory.{Directory}
 use Rattle.directory.specs.declared.totals.Totals.{Totals}
 use Rattle.result.specs.Place.{at-spot, placed, spot}
-use Rattle.posting.specs.Turned.{Ready, Turn}
+use Rattle.written.specs.Turned.{Ready, Turn}
 
 -- what a row becomes
 record Moves (w : Row × Row) : Type 0 where

@@ -43,16 +43,16 @@ use Rattle.figures.specs.declared.Figures.{Figures}
 use Rattle.figures.specs.Figures.{figuresOf}
 use Rattle.figures.specs.Reckoned.{Reckoned}
 use Rattle.verdict.specs.Judge.{Passed, how-many, resultRows, total-read}
-use Rattle.posting.specs.declared.close.Closed.{Closed}
-use Rattle.posting.specs.Add.{ownAdded}
-use Rattle.posting.specs.Change.{changePuts, summaryFree}
-use Rattle.posting.specs.Close.{Closables, Told, closed, freed, partPut}
+use Rattle.closed.specs.declared.Closed.{Closed}
+use Rattle.closed.specs.Close.{Closables, Told, closed, freed, partPut}
+use Rattle.added.specs.Add.{ownAdded}
+use Rattle.changed.specs.Change.{changePuts, summaryFree}
 use Rattle.result.specs.Place.{placed}
 use Rattle.result.specs.Post.{all-added, by-place, cs, lot-put, lots-freed, read, trade-is}
 use Rattle.result.specs.Post
 use Rattle.result.specs.Posted.{posted-by-place}
-use Rattle.posting.specs.Rows.{timeMost}
-use Rattle.posting.specs.Turned.{Ready, Turned, ready-added, ready-first, ready-next, turned-then}
+use Rattle.written.specs.Rows.{timeMost}
+use Rattle.written.specs.Turned.{Ready, Turned, ready-added, ready-first, ready-next, turned-then}
 use Rattle.result.specs.Turns.{ready-all}
 
 -- ---- all that is known of a result that is posted

@@ -22,13 +22,13 @@ use figures::reckoned;
 use kinds::inputs::ResultInput;
 use kinds::rows::Trade;
 use places::put::put;
-use posting::rows::answer_row;
 use reading::lots::lots_of;
 use reading::terms::terms_of;
 use reply::Ended;
 use reply::done;
 use sorted::Sorted;
 use verdict::judge;
+use written::answer_row;
 
 fn write_answer(answer: &mut [u8], trade: Trade, figures: Figures)
     ensures { λ _. ⌜ now (answer .exit) ≡ putAt (now (answer .entry)) 0 (answerOf trade figures) ⌝ }

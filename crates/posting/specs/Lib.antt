@@ -1,5 +1,0 @@
-pub mod Rows
-pub mod Turned
-pub mod Add
-pub mod Change
-pub mod Close
