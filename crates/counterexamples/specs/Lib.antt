@@ -1,4 +1,1 @@
 pub mod Counter
-pub mod Needed
-pub mod NotSaid
-pub mod InTurn

@@ -1,1 +1,1 @@
-// Where demand 3 is false: of other rules, and of less than it asks. Nothing here runs.
+// Rules of which demand 3 is false. Nothing here runs.
