@@ -18,7 +18,7 @@ use Rattle.model.specs.Rows.{mostRecords, places}
 use Rattle.model.specs.declared.Status.the-variants.{BadLength}
 use Rattle.chains.specs.Group.{mostHeads}
 use Rattle.directory.specs.Directory.{blank-of}
-use Rattle.sound.specs.ByRow.{rule-kept, rule-lost}
+use Rattle.by_kind.specs.ByRow.{rule-kept, rule-lost}
 use Rattle.opening.specs.Opening.{Room, few}
 
 -- an area of m cells, filled with the number of places

@@ -17,7 +17,7 @@ use Rattle.model.specs.declared.Status.the-variants.{BadBook, BadInput, Done, U
 use Rattle.directory.specs.Directory.{Blank, Directory}
 use Rattle.directory.specs.declared.totals.Totals.{Totals}
 use Rattle.reply.specs.declared.Ended.{Ended}
-use Rattle.sound.specs.ByRow.{rule-kept, rule-lost}
+use Rattle.by_kind.specs.ByRow.{rule-kept, rule-lost}
 
 -- the first of the checks that fails
 unfoldable pub opening : Bool → List ℕ → Status

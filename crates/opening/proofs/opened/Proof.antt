@@ -1,12 +1,7 @@
 -- The checks one after the other; the directory is built in between. Assumes nothing.
 use mathlib.Core.Path.{refl}
-<<<<<<< HEAD:crates/book/proofs/opened/Proof.antt
 use Rattle.by_kind.specs.ByRow.{rule-kept}
-use Rattle.book.specs.Shell.{bad-book, bad-input, few, open-book, unsound-book}
-=======
-use Rattle.sound.specs.ByRow.{rule-kept}
 use Rattle.opening.specs.Opening.{bad-book, bad-input, few, open-book, unsound-book}
->>>>>>> d6b37d5 (The checks of every call, the shell and the exported calls are three crates, so that a must-fail edit proves a part of them):crates/opening/proofs/opened/Proof.antt
 use borrow.Author.Needs.{needs}
 use Rattle.opening.proofs.opened.Statement.{statement}
 use Rattle.opening.proofs.opened.Tie as tie

@@ -3,17 +3,10 @@ use native.Mathlib.Omega.{arith}
 use borrow.Author.Needs.{needs}
 use Rattle.model.specs.Call.{run}
 use Rattle.facts.specs.Status.{number-back}
-<<<<<<< HEAD:crates/book/proofs/looked/Proof.antt
 use Rattle.by_kind.specs.ByRow.{rule-kept, rule-lost}
-use Rattle.book.specs.Shell.{decides, lookup-left, lookup-long, refuses}
-use Rattle.book.proofs.looked.Statement.{statement}
-use Rattle.book.proofs.looked.Tie as tie
-=======
-use Rattle.sound.specs.ByRow.{rule-kept, rule-lost}
 use Rattle.shell.specs.Shell.{decides, lookup-left, lookup-long, refuses}
 use Rattle.shell.proofs.looked.Statement.{statement}
 use Rattle.shell.proofs.looked.Tie as tie
->>>>>>> d6b37d5 (The checks of every call, the shell and the exported calls are three crates, so that a must-fail edit proves a part of them):crates/shell/proofs/looked/Proof.antt
 
 finish-requires : tie.Need-finish-requires
 finish-requires c κs =

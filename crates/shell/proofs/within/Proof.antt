@@ -2,17 +2,10 @@
 use native.Mathlib.Omega.{arith}
 use borrow.Author.Needs.{needs}
 use Rattle.facts.specs.Status.{number-back}
-<<<<<<< HEAD:crates/book/proofs/within/Proof.antt
 use Rattle.by_kind.specs.ByRow.{rule-kept, rule-lost}
-use Rattle.book.specs.Shell.{decides, long-both, refuses}
-use Rattle.book.proofs.within.Statement.{statement}
-use Rattle.book.proofs.within.Tie as tie
-=======
-use Rattle.sound.specs.ByRow.{rule-kept, rule-lost}
 use Rattle.shell.specs.Shell.{decides, long-both, refuses}
 use Rattle.shell.proofs.within.Statement.{statement}
 use Rattle.shell.proofs.within.Tie as tie
->>>>>>> d6b37d5 (The checks of every call, the shell and the exported calls are three crates, so that a must-fail edit proves a part of them):crates/shell/proofs/within/Proof.antt
 
 returns : tie.Need-returns
 returns c =
