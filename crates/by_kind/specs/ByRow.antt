@@ -10,7 +10,7 @@ use Rattle.record.specs.declared.row.Row.{Row}
 use Rattle.model.specs.Sound.{bandApart, cashRight, each, historyRight, namesKnown, ratesFit, requestRight, s1, s2}
 use Rattle.model.specs.Sound.{s3, s4, s5, s6, s7, s9, s10, settled, settlementRight, sound, tradesDone}
 use Rattle.by_kind.specs.OneSide.{holdingKept, holdings-kept}
-use Rattle.clauses.specs.Kept.{lotKept, summaryKept}
+use Rattle.by_group.specs.Kept.{lotKept, summaryKept}
 
 -- S4 to S10 of a row, each for the rows of its kind; S8 as `OneSide` has it
 unfoldable pub kindRight : List Row → Row → Bool

@@ -22,7 +22,7 @@ use Rattle.model.specs.Sound.{alone, s2, agrees}
 use Rattle.laws.specs.Place.{every-at, some-place, the-place}
 use Rattle.record.specs.Symbol.{sameSymbol}
 use Rattle.model.specs.Names.{aRequest, anAccount}
-use Rattle.clauses.specs.Rules.{asAsked}
+use Rattle.by_group.specs.Rules.{asAsked}
 
 -- the row that is found has the key
 found-has : (k : Key) (rs : List Row) → there k rs ≡ true → hasKey k (found k rs) ≡ true

@@ -30,7 +30,7 @@ use Rattle.model.specs.Rows.{hasKey, is, nothing, there}
 use Rattle.model.specs.Sound.{each, equalZ, lotOf, lotRight, otherSign, s1, s8, sharesOf, short, summaryRight}
 use Rattle.facts.specs.Names.{by-holder}
 use Rattle.groups.specs.Sums.{sharesPart}
-use Rattle.clauses.specs.Kept.{lotKept, oneSided, summaryKept, tradeAgrees}
+use Rattle.by_group.specs.Kept.{lotKept, oneSided, summaryKept, tradeAgrees}
 
 -- what is counted and what is summed are none together
 none-alike : {A : Type 0} (p : A → Bool) (f : A → ℕ) (l : List A)

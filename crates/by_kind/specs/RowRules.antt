@@ -12,7 +12,7 @@ use Rattle.model.specs.Rows.{found, there}
 use Rattle.model.specs.Sound.{namesKnown, tradesDone}
 use Rattle.by_kind.specs.ByRow.{kindRight, of-lot-history, rowRight}
 use Rattle.by_kind.specs.Once.{done-there}
-use Rattle.clauses.specs.Rules.{names-two}
+use Rattle.by_group.specs.Rules.{names-two}
 
 -- a test that a later one implies
 implied : (t z : Bool) → (z ≡ true → t ≡ true) → z ≡ (t && z)

@@ -26,8 +26,8 @@ use Rattle.by_kind.specs.Distinct.{last-free, last-kept, lastAt}
 use Rattle.clauses.specs.Hung.{hangs}
 use Rattle.clauses.specs.Own.{own-rule, ownWell}
 use Rattle.by_kind.specs.Kinds.{by-itself}
-use Rattle.clauses.specs.Kept.{summaryKept}
-use Rattle.clauses.specs.Rules.{names-two}
+use Rattle.by_group.specs.Kept.{summaryKept}
+use Rattle.by_group.specs.Rules.{names-two}
 
 pub summary-told : (b : List ℕ) (i : ℕ) {x : Bool} → i < length b / 64 → rowAt b i .kind ≡ kindSummary
     → s1 (rows b) ≡ true

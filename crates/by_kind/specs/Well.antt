@@ -36,7 +36,7 @@ use Rattle.clauses.specs.Hung.{fitsTrade, hangs, hung-rule, hungKinds, hungRule
 use Rattle.clauses.specs.Own.{noRule, own-rule, ownRules, ownWell}
 use Rattle.by_kind.specs.Once.{found-none, once, agrees-is}
 use Rattle.by_kind.specs.RowRules.{lot-history-row, row-both, row-kind, row-names}
-use Rattle.clauses.specs.Rules.{asAsked, names-none, names-one, names-three, names-two}
+use Rattle.by_group.specs.Rules.{asAsked, names-none, names-one, names-three, names-two}
 
 and-five : (a b c d e : Bool) → a ≡ true → b ≡ true → c ≡ true → d ≡ true → e ≡ true
     → (a && b && c && d && e) ≡ true

@@ -15,8 +15,8 @@ use Rattle.model.specs.Names.{anAccount}
 use Rattle.model.specs.Rows.{found}
 use Rattle.model.specs.Sound.{cashRight}
 use Rattle.facts.specs.Names.{of-five}
-use Rattle.clauses.specs.Kept.{lotKept}
-use Rattle.clauses.specs.Rules.{agreesWith}
+use Rattle.by_group.specs.Kept.{lotKept}
+use Rattle.by_group.specs.Rules.{agreesWith}
 
 -- the kinds of row that hang on a trade
 abbrev pub hungKinds : List ℕ

@@ -1,4 +1,2 @@
-pub mod Kept
-pub mod Rules
 pub mod Hung
 pub mod Own

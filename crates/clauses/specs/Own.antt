@@ -11,8 +11,8 @@ use Rattle.record.specs.Codes.{kindTrade}
 use Rattle.model.specs.Rows.{there}
 use Rattle.model.specs.Sound.{bandApart, namesKnown, ratesFit, tradesDone}
 use Rattle.model.specs.Names.{aBroker, aCustomer, aTaxRate, named}
-use Rattle.clauses.specs.Kept.{summaryKept}
-use Rattle.clauses.specs.Rules.{names-two}
+use Rattle.by_group.specs.Kept.{summaryKept}
+use Rattle.by_group.specs.Rules.{names-two}
 
 -- the rules of the other rows, and of a trade beside what hangs on it, by the kind's number
 abbrev pub noRule : List Row → Row → Bool

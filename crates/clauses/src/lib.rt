@@ -1,6 +1,3 @@
-// What S3 to S10 ask of one row: by what it names, by the trade that it hangs on, and by the rows of its group.
-pub mod holding;
+// What S3 to S10 ask of one row, by its kind: of a row that is searched by its own key, and of a row that hangs on a trade.
 pub mod hung;
-pub mod names;
 pub mod own;
-pub mod trade;
