@@ -1,5 +1,5 @@
--- What a call does before the shell: the lengths of the input and of the answer, and an area for the directory. Assumes
--- nothing.
+-- What a call does before the shell: the lengths of the input and of the answer, and an area for the directory.
+-- Assumes nothing.
 use mathlib.Core.Path.{_≡_, refl, ap}
 use mathlib.Core.Bool.{Bool, true, false, not, _&&_}
 use mathlib.Core.List.{List}

@@ -1,5 +1,5 @@
--- Rows that are added one after the other: what is asked for the first of them, and what is left for the next. Assumes
--- nothing.
+-- Rows that are added one after the other: what is asked for the first of them, and what is left for the next.
+-- Assumes nothing.
 use mathlib.Core.Path.{_≡_}
 use mathlib.Core.Bool.{false}
 use mathlib.Core.List.{List, [], _∷_}
