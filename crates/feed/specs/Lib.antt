@@ -1,4 +1,2 @@
-pub mod Apply
-pub mod Submit
 pub mod Sweep
 pub mod Whole

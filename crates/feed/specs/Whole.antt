@@ -26,11 +26,11 @@ use Rattle.facts.specs.Found.{sound-s1}
 use Rattle.facts.specs.Rows.{clean-fit}
 use Rattle.directory.specs.Directory.{Directory}
 use Rattle.directory.specs.declared.totals.Totals.{Totals}
-use Rattle.feed.specs.Apply.{Ahead}
+use Rattle.applied.specs.Apply.{Ahead}
 use Rattle.hits.specs.Due.{due-still, going-start, swept-due, trades-due}
 use Rattle.hits.specs.Hits.{due}
 use Rattle.hits.specs.Judge.{allKnown, volumeFits}
-use Rattle.feed.specs.Submit.{written-start}
+use Rattle.applied.specs.Submit.{written-start}
 use Rattle.feed.specs.Sweep.{left}
 
 keep-most : {A : Type 0} (p : A → Bool) (l : List A) → length (keep p l) ≤ length l

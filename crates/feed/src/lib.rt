@@ -10,11 +10,10 @@ ghost use Rattle.model.specs.Sound.{sound};
 ghost use Rattle.reply.specs.Left.{answerLeft, bookLeft};
 ghost use Rattle.directory.specs.Directory.{Directory};
 
-pub mod post;
 pub mod sweep;
 
-use crate::post::apply_all;
 use crate::sweep::swept;
+use applied::apply_all;
 use directory::totals::Totals;
 use hits::gather::submitted;
 use hits::judge::judge;

@@ -5,7 +5,7 @@ use borrow.Author.Tests.{eqb-true}
 use Rattle.record.specs.Codes.{kindRequest}
 use Rattle.places.specs.Rows.{rowAt}
 use Rattle.directory.specs.Kept.{no-number}
-use Rattle.feed.specs.Submit.{not-free}
+use Rattle.applied.specs.Submit.{not-free}
 use Rattle.feed.specs.Sweep.{goes, stays}
 use borrow.Author.Needs.{needs}
 use Rattle.feed.proofs.sweep.sweep_one.Statement.{statement}

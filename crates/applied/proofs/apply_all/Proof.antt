@@ -5,10 +5,10 @@ use Prim.Native.Nat.{_-_}
 use lib.ListN.{length}
 use Rattle.model.specs.Feed.{fed}
 use Rattle.model.specs.Rows.{rows}
-use Rattle.feed.specs.Apply.{Applying, apply-end, apply-entry, apply-more, apply-start}
+use Rattle.applied.specs.Apply.{Applying, apply-end, apply-entry, apply-more, apply-start}
 use borrow.Author.Needs.{needs}
-use Rattle.feed.proofs.post.apply_all.Statement.{statement}
-use Rattle.feed.proofs.post.apply_all.Tie as tie
+use Rattle.applied.proofs.apply_all.Statement.{statement}
+use Rattle.applied.proofs.apply_all.Tie as tie
 
 abbrev Inv-loop : tie.InvT-loop
 Inv-loop book₀ dir₀ input trades at₀ n left₀ i₀ book dir at left i =

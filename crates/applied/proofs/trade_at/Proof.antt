@@ -2,8 +2,8 @@
 use mathlib.Core.Path.{ap, _∙_}
 use Rattle.kinds.specs.Kinds.{tradeOf}
 use borrow.Author.Needs.{needs}
-use Rattle.feed.proofs.post.trade_at.Statement.{statement}
-use Rattle.feed.proofs.post.trade_at.Tie as tie
+use Rattle.applied.proofs.trade_at.Statement.{statement}
+use Rattle.applied.proofs.trade_at.Tie as tie
 
 returns : tie.Need-returns
 returns c = c .from-bytes .ensures ∙ ap tradeOf (c .before .before .record-at .ensures .1)

@@ -1,9 +1,9 @@
 -- The security's row is changed in its place, which is that of its key. Assumes nothing.
 use mathlib.Core.Path.{refl}
-use Rattle.feed.specs.Submit.{quote-is, quote-stays, quote-volume, quoted}
+use Rattle.applied.specs.Submit.{quote-is, quote-stays, quote-volume, quoted}
 use borrow.Author.Needs.{needs}
-use Rattle.feed.proofs.post.quote.Statement.{statement}
-use Rattle.feed.proofs.post.quote.Tie as tie
+use Rattle.applied.proofs.quote.Statement.{statement}
+use Rattle.applied.proofs.quote.Tie as tie
 
 security-requires : tie.Need-security-requires
 security-requires c κs = c .before .before .before .pre .0 .directory .listed

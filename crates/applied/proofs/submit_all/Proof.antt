@@ -5,11 +5,11 @@ use Prim.Native.Nat.{_-_}
 use lib.ListN.{length, take}
 use Rattle.laws.specs.Search.{run}
 use Rattle.model.specs.Rows.{rows}
-use Rattle.feed.specs.Submit.{Submitting, numbers, sentIn, submit-end, submit-more, submit-number, submit-room}
-use Rattle.feed.specs.Submit.{submit-start, submit-there}
+use Rattle.applied.specs.Submit.{Submitting, numbers, sentIn, submit-end, submit-more, submit-number, submit-room}
+use Rattle.applied.specs.Submit.{submit-start, submit-there}
 use borrow.Author.Needs.{needs}
-use Rattle.feed.proofs.post.submit_all.Statement.{statement}
-use Rattle.feed.proofs.post.submit_all.Tie as tie
+use Rattle.applied.proofs.submit_all.Statement.{statement}
+use Rattle.applied.proofs.submit_all.Tie as tie
 
 abbrev Inv-loop : tie.InvT-loop
 Inv-loop book₀ dir₀ at n time left₀ k₀ book dir left k =

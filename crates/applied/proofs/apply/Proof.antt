@@ -1,8 +1,8 @@
 -- The steps of an entry, each as the rules have it: where the feed submits nothing, its security is all. Assumes nothing.
-use Rattle.feed.specs.Apply.{entry-applied, entry-asking, entry-known, entry-quiet, entry-room, entry-volume}
+use Rattle.applied.specs.Apply.{entry-applied, entry-asking, entry-known, entry-quiet, entry-room, entry-volume}
 use borrow.Author.Needs.{needs}
-use Rattle.feed.proofs.post.apply.Statement.{statement}
-use Rattle.feed.proofs.post.apply.Tie as tie
+use Rattle.applied.proofs.apply.Statement.{statement}
+use Rattle.applied.proofs.apply.Tie as tie
 
 quote-requires : tie.Need-quote-requires
 quote-requires c κs =

@@ -33,7 +33,7 @@ use Rattle.hits.specs.Due.{Going, after-quote, fresh-submits, going-on}
 use Rattle.hits.specs.Gather.{Gathered}
 use Rattle.hits.specs.Hits.{firstHit, fresh}
 use Rattle.hits.specs.Judge.{volumeFits}
-use Rattle.feed.specs.Submit.{Asking, Ready, numbers, quoted-is, quotedBy, sentIn}
+use Rattle.applied.specs.Submit.{Asking, Ready, numbers, quoted-is, quotedBy, sentIn}
 
 abbrev first : List ℕ → Fed
 first b = record { rows = rows b; trades = 0 }

@@ -2,8 +2,8 @@
 use mathlib.Core.Path.{ap, _∙_}
 use Rattle.kinds.specs.Kinds.{securityOf}
 use borrow.Author.Needs.{needs}
-use Rattle.feed.proofs.post.security_at.Statement.{statement}
-use Rattle.feed.proofs.post.security_at.Tie as tie
+use Rattle.applied.proofs.security_at.Statement.{statement}
+use Rattle.applied.proofs.security_at.Tie as tie
 
 returns : tie.Need-returns
 returns c = c .from-bytes .ensures ∙ ap securityOf (c .before .before .record-at .ensures .1)

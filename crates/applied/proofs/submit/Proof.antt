@@ -1,10 +1,10 @@
 -- The history row is added, and the trade's row changed in its place, which the added row does not move. Assumes
 -- nothing.
 use mathlib.Core.Path.{refl}
-use Rattle.feed.specs.Submit.{history-is, history-live, sent-is, sent-one, sent-stays}
+use Rattle.applied.specs.Submit.{history-is, history-live, sent-is, sent-one, sent-stays}
 use borrow.Author.Needs.{needs}
-use Rattle.feed.proofs.post.submit.Statement.{statement}
-use Rattle.feed.proofs.post.submit.Tie as tie
+use Rattle.applied.proofs.submit.Statement.{statement}
+use Rattle.applied.proofs.submit.Tie as tie
 
 add-requires : tie.Need-add-requires
 add-requires c κs =

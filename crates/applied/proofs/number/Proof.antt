@@ -2,8 +2,8 @@
 use mathlib.Core.Path.{ap}
 use Rattle.kinds.specs.declared.rows.Request.{Request}
 use borrow.Author.Needs.{needs}
-use Rattle.feed.proofs.post.number.Statement.{statement}
-use Rattle.feed.proofs.post.number.Tie as tie
+use Rattle.applied.proofs.number.Statement.{statement}
+use Rattle.applied.proofs.number.Tie as tie
 
 returns : tie.Need-returns
 returns c = ap (λ (r : Request). r .no) (c .before .request-at .ensures)

@@ -1,8 +1,8 @@
 -- Neither is below zero where it counts. Assumes nothing.
 use mathlib.Core.Path.{_∙_}
 use borrow.Author.Needs.{needs}
-use Rattle.feed.proofs.post.sum.Statement.{statement}
-use Rattle.feed.proofs.post.sum.Tie as tie
+use Rattle.applied.proofs.sum.Statement.{statement}
+use Rattle.applied.proofs.sum.Tie as tie
 
 returns : tie.Need-returns
 returns c = c .of .ensures .0 ∙ rw (c .before .before .plain .ensures .0, c .before .plain2 .ensures .0)

@@ -1,0 +1,2 @@
+pub mod Submit
+pub mod Apply
