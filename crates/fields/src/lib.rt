@@ -5,27 +5,29 @@ ghost use lib.ListN.{length};
 ghost use Rattle.record.specs.Grid.{decode};
 ghost use Rattle.record.specs.Spelling.{symbolOk};
 ghost use Rattle.rules.specs.Rules.{fits};
+use kinds::limits::Beyond;
+use kinds::rows::Account;
+use kinds::rows::Band;
+use kinds::rows::Broker;
+use kinds::rows::Cash;
+use kinds::rows::Charge;
+use kinds::rows::Customer;
+use kinds::rows::CustomerRate;
+use kinds::rows::Lot;
+use kinds::rows::LotHistory;
+use kinds::rows::Request;
+use kinds::rows::Security;
+use kinds::rows::Settlement;
+use kinds::rows::Summary;
+use kinds::rows::TaxRate;
+use kinds::rows::Trade;
+use kinds::rows::TradeHistory;
 use record::codes::Kind;
 use record::row::Row;
 use record::symbol::Symbol;
-
-// A symbol that is spelled right.
-struct Spelt {}
-
-impl Spelt {
-    const A: Symbol = Symbol(4_683_743_612_465_315_840);
-}
-
-// A symbol is spelled right: it is one that is known to be, or it is read letter by letter.
-fn spelled(symbol: Symbol, known: Symbol) -> bool
-    requires { ⌜ symbolOk known ≡ true ⌝ }
-    ensures { λ b. ⌜ b ≡ symbolOk symbol ⌝ }
-{
-    if symbol.same(known) {
-        return true;
-    }
-    symbol.ok()
-}
+use rules::limited::in_limits;
+use rules::obey::Spelt;
+use rules::obey::beyond;
 
 // A row is free or fits the grid.
 fn row_fits(r: Row, known: Symbol) -> bool
@@ -33,25 +35,28 @@ fn row_fits(r: Row, known: Symbol) -> bool
     ensures { λ b. ⌜ b ≡ fits r ⌝ }
 {
     let kind = r.kind;
-    let symbol = r.symbol;
     match kind {
-        Kind::FREE => standing::free(r),
-        Kind::BROKER => standing::broker(r),
-        Kind::CUSTOMER => standing::customer(r),
-        Kind::TAX_RATE => standing::tax_rate(r),
-        Kind::CUSTOMER_RATE => standing::customer_rate(r),
-        Kind::ACCOUNT => standing::account(r),
-        Kind::SECURITY => standing::security(r),
-        Kind::BAND => standing::band(r),
-        Kind::CHARGE => standing::charge(r),
-        Kind::TRADE => trading::trade(r) & spelled(symbol, known),
-        Kind::REQUEST => trading::request(r) & spelled(symbol, known),
-        Kind::TRADE_HISTORY => trading::trade_history(r),
-        Kind::LOT => trading::lot(r) & spelled(symbol, known),
-        Kind::SUMMARY => trading::summary(r) & spelled(symbol, known),
-        Kind::LOT_HISTORY => trading::lot_history(r),
-        Kind::SETTLEMENT => trading::settlement(r),
-        Kind::CASH => trading::cash(r),
+        Kind::FREE => in_limits(r, ranges::free()) & beyond(r, Beyond::NOTHING, known),
+        Kind::BROKER => in_limits(r, ranges::broker()) & beyond(r, Broker::BEYOND, known),
+        Kind::CUSTOMER => in_limits(r, ranges::customer()) & beyond(r, Customer::BEYOND, known),
+        Kind::TAX_RATE => in_limits(r, ranges::tax_rate()) & beyond(r, TaxRate::BEYOND, known),
+        Kind::CUSTOMER_RATE => in_limits(r, ranges::customer_rate())
+            & beyond(r, CustomerRate::BEYOND, known),
+        Kind::ACCOUNT => in_limits(r, ranges::account()) & beyond(r, Account::BEYOND, known),
+        Kind::SECURITY => in_limits(r, ranges::security()) & beyond(r, Security::BEYOND, known),
+        Kind::BAND => in_limits(r, ranges::band()) & beyond(r, Band::BEYOND, known),
+        Kind::CHARGE => in_limits(r, ranges::charge()) & beyond(r, Charge::BEYOND, known),
+        Kind::TRADE => in_limits(r, ranges::trade()) & beyond(r, Trade::BEYOND, known),
+        Kind::REQUEST => in_limits(r, ranges::request()) & beyond(r, Request::BEYOND, known),
+        Kind::TRADE_HISTORY => in_limits(r, ranges::trade_history())
+            & beyond(r, TradeHistory::BEYOND, known),
+        Kind::LOT => in_limits(r, ranges::lot()) & beyond(r, Lot::BEYOND, known),
+        Kind::SUMMARY => in_limits(r, ranges::summary()) & beyond(r, Summary::BEYOND, known),
+        Kind::LOT_HISTORY => in_limits(r, ranges::lot_history())
+            & beyond(r, LotHistory::BEYOND, known),
+        Kind::SETTLEMENT => in_limits(r, ranges::settlement())
+            & beyond(r, Settlement::BEYOND, known),
+        Kind::CASH => in_limits(r, ranges::cash()) & beyond(r, Cash::BEYOND, known),
         _ => false,
     }
 }

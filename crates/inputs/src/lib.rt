@@ -44,7 +44,7 @@ pub fn is_result(part: &[u8]) -> bool
 
 // Every record of an input obeys the rule.
 fn all(input: &[u8], rule: Rule) -> bool
-    requires { ⌜ (rule .m1 < 9223372036854775808) × (rule .n1n2 < 2147483648) ⌝ }
+    requires { ⌜ (rule .beyond .m1 < 9223372036854775808) × (rule .beyond .n1n2 < 2147483648) ⌝ }
     ensures { λ b. ⌜ b ≡ every (obeys (shapeOf rule)) (rows (now (input .entry))) ⌝ }
 {
     let n = input.len() / Grid::SIZE;

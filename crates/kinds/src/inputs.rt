@@ -3,6 +3,7 @@ ghost use mathlib.Core.Path.{_≡_};
 ghost use lib.ListN.{length};
 ghost use Rattle.record.specs.Grid.{decode};
 ghost use Rattle.kinds.specs.Inputs.{feedInputOf, lookupInputOf, orderInputOf, resultInputOf};
+use crate::limits::Beyond;
 use crate::limits::Clause;
 use crate::limits::Limits;
 use crate::limits::R8;
@@ -44,9 +45,11 @@ impl OrderInput {
             time: Ranges::TIME,
             ..Limits::NONE
         },
-        symbol: true,
-        clause: Clause::Market,
-        ..Rule::FREE
+        beyond: Beyond {
+            symbol: true,
+            clause: Clause::Market,
+            ..Beyond::NOTHING
+        },
     };
 
     pub fn from_bytes(part: &[u8]) -> OrderInput
@@ -81,7 +84,7 @@ impl ResultInput {
             time: Ranges::TIME,
             ..Limits::NONE
         },
-        ..Rule::FREE
+        beyond: Beyond::NOTHING,
     };
 
     pub fn from_bytes(part: &[u8]) -> ResultInput
@@ -114,8 +117,10 @@ impl FeedInput {
             time: Ranges::TIME,
             ..Limits::NONE
         },
-        symbol: true,
-        ..Rule::FREE
+        beyond: Beyond {
+            symbol: true,
+            ..Beyond::NOTHING
+        },
     };
 
     pub fn from_bytes(part: &[u8]) -> FeedInput
@@ -143,7 +148,7 @@ impl LookupInput {
             id: Ranges::TRADE_NO,
             ..Limits::NONE
         },
-        ..Rule::FREE
+        beyond: Beyond::NOTHING,
     };
 
     pub fn from_bytes(part: &[u8]) -> LookupInput

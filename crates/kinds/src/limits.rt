@@ -63,9 +63,8 @@ pub enum Clause {
     Market,
 }
 
-// The rule of a kind.
-pub struct Rule {
-    pub limits: Limits,
+// What a kind asks that is no range.
+pub struct Beyond {
     // How far from zero the signed number m1 may be; zero where that is not asked.
     pub m1: u64,
     // The same of n1 and n2.
@@ -75,15 +74,19 @@ pub struct Rule {
     pub clause: Clause,
 }
 
-impl Rule {
-    // A record of zeros is free; the rule of a kind adds to this.
-    pub const FREE: Rule = Rule {
-        limits: Limits::NONE,
+impl Beyond {
+    pub const NOTHING: Beyond = Beyond {
         m1: 0,
         n1n2: 0,
         symbol: false,
         clause: Clause::Nothing,
     };
+}
+
+// The rule of a kind of input.
+pub struct Rule {
+    pub limits: Limits,
+    pub beyond: Beyond,
 }
 
 // The fields that make a key.

@@ -1,5 +1,5 @@
-// The sixteen kinds of row: where each has its fields, their limits, the fields of its key, a value of the kind from a
-// record's bytes, and, of the kinds that the calls write, the row of a value.
+// The sixteen kinds of row: where each has its fields, their limits, what it asks beyond them, the fields of its key,
+// a value of the kind from a record's bytes, and, of the kinds that the calls write, the row of a value.
 ghost use mathlib.Core.Path.{_≡_};
 ghost use lib.ListN.{length};
 ghost use Rattle.record.specs.Grid.{decode};
@@ -8,6 +8,8 @@ ghost use Rattle.kinds.specs.Kinds.{bandOf, chargeOf, tradeOf, requestOf
 ghost use Rattle.kinds.specs.Kinds.{lotHistoryOf, settlementOf, cashOf};
 ghost use Rattle.kinds.specs.Written.{accountRow, brokerRow, cashRow, lotHistoryRow, lotRow, requestRow};
 ghost use Rattle.kinds.specs.Written.{securityRow, settlementRow, summaryRow, tradeHistoryRow, tradeRow};
+use crate::limits::Beyond;
+use crate::limits::Clause;
 use crate::limits::Limits;
 use crate::limits::Marks;
 use crate::limits::R8;
@@ -79,6 +81,8 @@ impl Broker {
         ..Limits::NONE
     };
 
+    pub const BEYOND: Beyond = Beyond::NOTHING;
+
     pub const KEY: Marks = Marks::PARTY;
 
     pub fn from_bytes(part: &[u8]) -> Broker
@@ -125,6 +129,8 @@ impl Customer {
         ..Limits::NONE
     };
 
+    pub const BEYOND: Beyond = Beyond::NOTHING;
+
     pub const KEY: Marks = Marks::PARTY;
 
     pub fn from_bytes(part: &[u8]) -> Customer
@@ -158,6 +164,8 @@ impl TaxRate {
         ..Limits::NONE
     };
 
+    pub const BEYOND: Beyond = Beyond::NOTHING;
+
     pub const KEY: Marks = Marks::PARTY;
 
     pub fn from_bytes(part: &[u8]) -> TaxRate
@@ -190,6 +198,8 @@ impl CustomerRate {
         n1: Ranges::NUMBER,
         ..Limits::NONE
     };
+
+    pub const BEYOND: Beyond = Beyond::NOTHING;
 
     pub const KEY: Marks = Marks {
         n1: true,
@@ -237,6 +247,11 @@ impl Account {
         n2: Ranges::NUMBER,
         m1: Ranges::ANY64,
         ..Limits::NONE
+    };
+
+    pub const BEYOND: Beyond = Beyond {
+        m1: Ranges::MONEY_MOST,
+        ..Beyond::NOTHING
     };
 
     pub const KEY: Marks = Marks::PARTY;
@@ -299,6 +314,11 @@ impl Security {
         m1: R64(0, Ranges::VOLUME_MOST),
         time: Ranges::TIME,
         ..Limits::NONE
+    };
+
+    pub const BEYOND: Beyond = Beyond {
+        symbol: true,
+        ..Beyond::NOTHING
     };
 
     pub const KEY: Marks = Marks {
@@ -371,6 +391,11 @@ impl Band {
         ..Limits::NONE
     };
 
+    pub const BEYOND: Beyond = Beyond {
+        clause: Clause::FromTo,
+        ..Beyond::NOTHING
+    };
+
     pub const KEY: Marks = Marks {
         form: true,
         status: true,
@@ -417,6 +442,8 @@ impl Charge {
         n1: Ranges::CHARGE,
         ..Limits::NONE
     };
+
+    pub const BEYOND: Beyond = Beyond::NOTHING;
 
     pub const KEY: Marks = Marks {
         form: true,
@@ -498,6 +525,12 @@ impl Trade {
         m2: Ranges::FEE,
         time: Ranges::TIME,
         ..Limits::NONE
+    };
+
+    pub const BEYOND: Beyond = Beyond {
+        symbol: true,
+        clause: Clause::Completed,
+        ..Beyond::NOTHING
     };
 
     pub const KEY: Marks = Marks::ID;
@@ -586,6 +619,11 @@ impl Request {
         ..Limits::NONE
     };
 
+    pub const BEYOND: Beyond = Beyond {
+        symbol: true,
+        ..Beyond::NOTHING
+    };
+
     pub const KEY: Marks = Marks::ID;
 
     pub fn from_bytes(part: &[u8]) -> Request
@@ -642,6 +680,8 @@ impl TradeHistory {
         time: Ranges::TIME,
         ..Limits::NONE
     };
+
+    pub const BEYOND: Beyond = Beyond::NOTHING;
 
     pub const KEY: Marks = Marks {
         status: true,
@@ -707,6 +747,13 @@ impl Lot {
         ..Limits::NONE
     };
 
+    pub const BEYOND: Beyond = Beyond {
+        m1: Ranges::SHARES_MOST as u64,
+        symbol: true,
+        clause: Clause::NotZero,
+        ..Beyond::NOTHING
+    };
+
     pub const KEY: Marks = Marks::ID;
 
     pub fn from_bytes(part: &[u8]) -> Lot
@@ -762,6 +809,12 @@ impl Summary {
         symbol: Ranges::ANY64,
         m1: Ranges::ANY64,
         ..Limits::NONE
+    };
+
+    pub const BEYOND: Beyond = Beyond {
+        symbol: true,
+        clause: Clause::NotZero,
+        ..Beyond::NOTHING
     };
 
     pub const KEY: Marks = Marks {
@@ -820,6 +873,12 @@ impl LotHistory {
         n2: Ranges::ANY32,
         m2: Ranges::TRADE_NO,
         ..Limits::NONE
+    };
+
+    pub const BEYOND: Beyond = Beyond {
+        n1n2: Ranges::SHARES_MOST,
+        clause: Clause::Unequal,
+        ..Beyond::NOTHING
     };
 
     pub const KEY: Marks = Marks {
@@ -882,6 +941,11 @@ impl Settlement {
         ..Limits::NONE
     };
 
+    pub const BEYOND: Beyond = Beyond {
+        m1: Ranges::MONEY_MOST,
+        ..Beyond::NOTHING
+    };
+
     pub const KEY: Marks = Marks::ID;
 
     pub fn from_bytes(part: &[u8]) -> Settlement
@@ -932,6 +996,11 @@ impl Cash {
         m1: Ranges::ANY64,
         time: Ranges::TIME,
         ..Limits::NONE
+    };
+
+    pub const BEYOND: Beyond = Beyond {
+        m1: Ranges::MONEY_MOST,
+        ..Beyond::NOTHING
     };
 
     pub const KEY: Marks = Marks::ID;

@@ -1,6 +1,7 @@
 pub mod Ranges
 pub mod Signed
 pub mod Rules
+pub mod Beyond
 pub mod Key
 pub mod KeyLaws
 pub mod Marks

@@ -15,6 +15,7 @@ use Rattle.record.specs.Codes.{kindTrade, kindTradeHistory, tms}
 use Rattle.record.specs.Spelling.{symbolOk}
 use Rattle.record.specs.declared.row.Row.{Row}
 use Rattle.record.specs.declared.symbol.Symbol.{Symbol}
+use Rattle.kinds.specs.declared.limits.Beyond.{Beyond}
 use Rattle.kinds.specs.declared.limits.Clause.{Clause}
 use Rattle.kinds.specs.declared.limits.Clause.the-variants.{Nothing, FromTo, Completed, NotZero, Unequal, Market}
 use Rattle.kinds.specs.declared.limits.Rule.{Rule}
@@ -68,15 +69,12 @@ obeys s r =
     (near32 (s .n1n2) (r .n1) (r .n2)))
     (spelled (s .symbol) (r .symbol))
 
--- the rule that a constant of the code gives
+-- the rule that the ranges and a constant of the code give, and that of an input's constant
+abbrev pub shaped : List Range → Beyond → Shape
+shaped gs u = record { limits = gs; m1 = u .m1; n1n2 = u .n1n2; symbol = u .symbol; clause = u .clause }
+
 abbrev pub shapeOf : Rule → Shape
-shapeOf u = record {
-  limits = ranges (u .limits);
-  m1 = u .m1;
-  n1n2 = u .n1n2;
-  symbol = u .symbol;
-  clause = u .clause;
-}
+shapeOf u = shaped (ranges (u .limits)) (u .beyond)
 
 abbrev plain : List Range → Shape
 plain gs = record { limits = gs; m1 = 0; n1n2 = 0; symbol = false; clause = Nothing }

@@ -1,12 +1,16 @@
-// Whether a row obeys the rule of a kind: one checker for every entry of the table. Where the entry is a constant, what
-// it does not ask for falls away.
+// What the rule of a kind asks beyond its ranges: one function for every kind of row and of input. Where the kind's
+// entry is a constant, what it does not ask for falls away.
 ghost use mathlib.Core.Path.{_≡_};
+ghost use mathlib.Core.Bool.{true};
 ghost use Prim.Native.Nat.{_<_};
-ghost use Rattle.rules.specs.Rules.{allOf, compared, near32, near64, obeys, shapeOf, spelled};
+ghost use Rattle.record.specs.Spelling.{symbolOk};
+ghost use Rattle.rules.specs.Beyond.{beyond};
+ghost use Rattle.rules.specs.Rules.{allOf, compared, near32, near64, obeys, shapeOf};
 use crate::limited::alike;
 use crate::limited::in_limits;
 use crate::limited::near32;
 use crate::limited::near64;
+use kinds::limits::Beyond;
 use kinds::limits::Clause;
 use kinds::limits::Rule;
 use record::codes::TradeStatus;
@@ -50,21 +54,56 @@ fn bound32(t: bool, most: u32, x: u32, y: u32) -> bool
     }
 }
 
-fn spelled(t: bool, named: bool, s: Symbol) -> bool
-    ensures { λ b. ⌜ b ≡ allOf t (spelled named s) ⌝ }
-{
-    if named { t & s.ok() } else { t }
+// A symbol that is spelled right.
+pub struct Spelt {}
+
+impl Spelt {
+    pub const A: Symbol = Symbol(4_683_743_612_465_315_840);
 }
 
+// A symbol is spelled right: it is one that is known to be, or it is read letter by letter.
+fn spelled(symbol: Symbol, known: Symbol) -> bool
+    requires { ⌜ symbolOk known ≡ true ⌝ }
+    ensures { λ b. ⌜ b ≡ symbolOk symbol ⌝ }
+{
+    if symbol.same(known) {
+        return true;
+    }
+    symbol.ok()
+}
+
+// What is no range. A symbol is at hand that is spelled right, and may well be the row's own.
+pub fn beyond(r: Row, u: Beyond, known: Symbol) -> bool
+    requires { ⌜ (u .m1 < 9223372036854775808) × (u .n1n2 < 2147483648) × (symbolOk known ≡ true) ⌝ }
+    ensures { λ b. ⌜ b ≡ beyond u r ⌝ }
+{
+    let clause = u.clause;
+    let symbol = r.symbol;
+    let t1 = compared(true, clause, r);
+    let t2 = bound64(t1, u.m1, r.m1);
+    let t3 = bound32(t2, u.n1n2, r.n1, r.n2);
+    if u.symbol {
+        t3 & spelled(symbol, known)
+    } else {
+        t3
+    }
+}
+
+// A symbol that is spelled right: this one, if it is.
+fn right(symbol: Symbol) -> Symbol
+    ensures { λ s. ⌜ symbolOk s ≡ true ⌝ }
+{
+    if symbol.ok() { symbol } else { Spelt::A }
+}
+
+// The whole rule of an input. Its own symbol is asked for here, too: with two callers `ok` stays a function, and
+// `beyond` is small enough for each kind of row to get its own part of it.
 pub fn obeys(r: Row, u: Rule) -> bool
-    requires { ⌜ (u .m1 < 9223372036854775808) × (u .n1n2 < 2147483648) ⌝ }
+    requires { ⌜ (u .beyond .m1 < 9223372036854775808) × (u .beyond .n1n2 < 2147483648) ⌝ }
     ensures { λ b. ⌜ b ≡ obeys (shapeOf u) r ⌝ }
 {
     let limits = u.limits;
-    let clause = u.clause;
+    let more = u.beyond;
     let symbol = r.symbol;
-    let t1 = compared(in_limits(r, limits), clause, r);
-    let t2 = bound64(t1, u.m1, r.m1);
-    let t3 = bound32(t2, u.n1n2, r.n1, r.n2);
-    spelled(t3, u.symbol, symbol)
+    in_limits(r, limits) & beyond(r, more, right(symbol))
 }
