@@ -8,15 +8,15 @@ use borrow.Author.Tests.{eq-eqb, ne-eqb}
 use Rattle.record.specs.Codes.{completed}
 use Rattle.record.specs.Signed.{up}
 use Rattle.record.specs.declared.row.Row.{Row}
-use Rattle.kinds.specs.Units.{shares}
+use Rattle.units.specs.Units.{shares}
 use Rattle.kinds.specs.Written.{tradeRow}
 use Rattle.kinds.specs.declared.inputs.ResultInput.{ResultInput}
 use Rattle.kinds.specs.declared.rows.Trade.{Trade}
-use Rattle.kinds.specs.declared.units.Shares.{Shares}
+use Rattle.units.specs.declared.Shares.{Shares}
 use Rattle.model.specs.Flags.{cash}
 use Rattle.model.specs.History.{historyRow}
 use Rattle.model.specs.Result.{cashRow, finalRows, lotHistory, newLot, newSummary, openingRows, settlementRow, signed}
-use Rattle.directory.specs.Added.{Added, Room, added-then, room-first, room-next}
+use Rattle.upkeep.specs.Added.{Added, Room, added-then, room-first, room-next}
 use Rattle.directory.specs.declared.totals.Totals.{Totals}
 use Rattle.reading.specs.declared.terms.Terms.{Terms}
 use Rattle.figures.specs.declared.Figures.{Figures}

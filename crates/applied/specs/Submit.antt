@@ -27,18 +27,18 @@ use Rattle.rules.specs.Meaning.{means-security, means-trade}
 use Rattle.rules.specs.Ranges.{m1, n1, volume, when}
 use Rattle.rules.specs.Rules.{as-kind, fits}
 use Rattle.rules.specs.Typed.{security-written, trade-written}
-use Rattle.rules.specs.declared.key.Key.{Key}
+use Rattle.keys.specs.declared.Key.{Key}
 use Rattle.kinds.specs.Inputs.{feedInputOf}
 use Rattle.kinds.specs.Kinds.{requestOf, securityOf, tradeOf}
 use Rattle.kinds.specs.Typed.{back64}
-use Rattle.kinds.specs.Units.{shares}
+use Rattle.units.specs.Units.{shares}
 use Rattle.kinds.specs.Written.{securityRow, tradeHistoryRow, tradeRow}
 use Rattle.kinds.specs.declared.inputs.FeedInput.{FeedInput}
 use Rattle.kinds.specs.declared.rows.Security.{Security}
 use Rattle.kinds.specs.declared.rows.Trade.{Trade}
-use Rattle.kinds.specs.declared.units.Shares.{Shares}
-use Rattle.kinds.specs.declared.units.Time.{Time}
-use Rattle.kinds.specs.declared.units.TradeNo.{TradeNo}
+use Rattle.units.specs.declared.Shares.{Shares}
+use Rattle.units.specs.declared.Time.{Time}
+use Rattle.units.specs.declared.TradeNo.{TradeNo}
 use Rattle.model.specs.Edit.{_≔_, changed}
 use Rattle.model.specs.Feed.{sent, traded}
 use Rattle.model.specs.History.{historyRow}
@@ -53,7 +53,7 @@ use Rattle.facts.specs.Rows.{Clean, length-rows, put-found, there-alike}
 use Rattle.places.specs.Put.{free-put}
 use Rattle.places.specs.Rows.{freeFrom, putAt, rowAt, rows-past}
 use Rattle.chains.specs.Group.{groupOf, security-stays, trade-stays}
-use Rattle.directory.specs.Added.{Added, added-keeps, added-one}
+use Rattle.upkeep.specs.Added.{Added, added-keeps, added-one}
 use Rattle.directory.specs.Directory.{Directory}
 use Rattle.directory.specs.Found.{key-row}
 use Rattle.directory.specs.declared.totals.Totals.{Totals}

@@ -9,7 +9,7 @@ ghost use Rattle.laws.specs.Search.{run};
 ghost use Rattle.record.specs.Signed.{up};
 ghost use Rattle.rules.specs.Ranges.{volume};
 ghost use Rattle.kinds.specs.Kinds.{requestOf, securityOf, tradeOf};
-ghost use Rattle.kinds.specs.Units.{shares};
+ghost use Rattle.units.specs.Units.{shares};
 ghost use Rattle.model.specs.Feed.{fed};
 ghost use Rattle.model.specs.Names.{aSecurity, aTrade};
 ghost use Rattle.model.specs.Rows.{found, rows, there};
@@ -18,8 +18,6 @@ ghost use Rattle.directory.specs.Directory.{Directory};
 ghost use Rattle.applied.specs.Apply.{Ahead, Applied, Entry};
 ghost use Rattle.applied.specs.Submit.{Asking, Ready, Sent, numbers, quotedBy, sentIn};
 use directory::build::places;
-use directory::change::add;
-use directory::change::change;
 use directory::totals::Totals;
 use directory::typed::security;
 use directory::typed::trade;
@@ -29,13 +27,15 @@ use kinds::inputs::FeedInput;
 use kinds::rows::Security;
 use kinds::rows::Trade;
 use kinds::rows::TradeHistory;
-use kinds::units::Shares;
-use kinds::units::Time;
-use kinds::units::TradeNo;
 use places::place::record_at;
 use record::codes::TradeStatus;
 use sorted::Sorted;
 use sorted::request_at;
+use units::Shares;
+use units::Time;
+use units::TradeNo;
+use upkeep::add;
+use upkeep::change;
 
 // The row at a place as a security.
 fn security_at(book: &[u8], i: usize) -> Security

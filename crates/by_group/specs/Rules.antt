@@ -23,13 +23,13 @@ use Rattle.record.specs.declared.symbol.Symbol.{Symbol}
 use Rattle.record.specs.Bytes.{Bytes}
 use Rattle.record.specs.Grid.{decode}
 use Rattle.kinds.specs.Kinds.{cashOf, requestOf, settlementOf, tradeOf}
-use Rattle.kinds.specs.Units.{shares}
+use Rattle.units.specs.Units.{shares}
 use Rattle.kinds.specs.declared.rows.Trade.{Trade}
 use Rattle.kinds.specs.declared.rows.Request.{Request}
 use Rattle.kinds.specs.declared.rows.Settlement.{Settlement}
 use Rattle.kinds.specs.declared.rows.Cash.{Cash}
-use Rattle.kinds.specs.declared.units.Shares.{Shares}
-use Rattle.rules.specs.declared.key.Key.{Key}
+use Rattle.units.specs.declared.Shares.{Shares}
+use Rattle.keys.specs.declared.Key.{Key}
 use Rattle.model.specs.Flags.{cash}
 use Rattle.model.specs.Names.{aSettlement, anAccount, named}
 use Rattle.model.specs.Rows.{found, hasKey, rows, there}

@@ -17,10 +17,10 @@ use kinds::rows::Customer;
 use kinds::rows::Lot;
 use kinds::rows::Summary;
 use kinds::rows::Trade;
-use kinds::units::Shares;
 use places::place::part;
 use record::codes::TradeStatus;
 use record::row::Grid;
+use units::Shares;
 
 // The band at a place overlaps itself alone.
 pub fn apart(book: &[u8], dir: &[u16], i: usize) -> bool

@@ -14,9 +14,9 @@ use Rattle.laws.specs.Search.{count, every, means-every, place, seek, total}
 use Rattle.laws.specs.Tests.{and-both, and-left, and-right, one-truth, or-either, or-else}
 use Rattle.laws.specs.Walk.{from, from-clear, from-holds, from-low, left-next, left-none}
 use Rattle.record.specs.Codes.{kindFree}
-use Rattle.rules.specs.Key.{keyOf}
-use Rattle.rules.specs.KeyLaws.{key-itself, same-keys}
-use Rattle.rules.specs.declared.key.Key.{Key}
+use Rattle.keys.specs.Key.{keyOf}
+use Rattle.keys.specs.KeyLaws.{key-itself, same-keys}
+use Rattle.keys.specs.declared.Key.{Key}
 use Rattle.record.specs.declared.row.Row.{Row}
 use Rattle.model.specs.Rows.{hasKey, is, nothing, rows}
 use Rattle.model.specs.Sound.{alone, s2}

@@ -11,7 +11,7 @@ use borrow.Author.Tests.{eqb-false, eqb-true, ltb-false, ltb-true, ne-eqb}
 use Rattle.laws.specs.Place.{every-place}
 use Rattle.laws.specs.Tests.{and-both, and-left, and-right, and-true}
 use Rattle.record.specs.Codes.{kindLot, kindRequest, kindSummary, kindTrade}
-use Rattle.rules.specs.Key.{among}
+use Rattle.keys.specs.Key.{among}
 use Rattle.record.specs.declared.row.Row.{Row}
 use Rattle.rules.specs.Rules.{fits}
 use Rattle.model.specs.Rows.{is, nothing, rows}

@@ -13,9 +13,9 @@ use Rattle.laws.specs.Search.{bit, count, place, the, total}
 use Rattle.laws.specs.Tests.{or-else}
 use Rattle.laws.specs.Walk.{from-holds}
 use Rattle.record.specs.Codes.{completed, kindFree}
-use Rattle.rules.specs.Key.{keyOf}
-use Rattle.rules.specs.KeyLaws.{same-keys}
-use Rattle.rules.specs.declared.key.Key.{Key}
+use Rattle.keys.specs.Key.{keyOf}
+use Rattle.keys.specs.KeyLaws.{same-keys}
+use Rattle.keys.specs.declared.Key.{Key}
 use Rattle.record.specs.declared.row.Row.{Row}
 use Rattle.model.specs.Rows.{found, hasKey, is, nothing, there}
 use Rattle.model.specs.Sound.{alone, s2, agrees}

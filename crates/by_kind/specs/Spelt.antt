@@ -17,7 +17,7 @@ use Rattle.record.specs.declared.row.Row.{Row}
 use Rattle.record.specs.declared.symbol.Symbol.{Symbol}
 use Rattle.kinds.specs.Kinds.{tradeOf}
 use Rattle.kinds.specs.declared.rows.Trade.{Trade}
-use Rattle.rules.specs.declared.key.Key.{Key}
+use Rattle.keys.specs.declared.Key.{Key}
 use Rattle.rules.specs.Meaning.{means-security, means-trade}
 use Rattle.rules.specs.Rules.{as-kind, fits}
 use Rattle.model.specs.Names.{aSecurity, aTrade}

@@ -12,7 +12,7 @@ use Rattle.laws.specs.Tests.{and-true}
 use Rattle.record.specs.Codes.{kindFree, kindSummary, kindTrade}
 use Rattle.kinds.specs.Kinds.{tradeOf}
 use Rattle.kinds.specs.declared.rows.Trade.{Trade}
-use Rattle.rules.specs.Key.{keyOf}
+use Rattle.keys.specs.Key.{keyOf}
 use Rattle.rules.specs.Rules.{fits}
 use Rattle.model.specs.Names.{aSecurity, anAccount, named}
 use Rattle.model.specs.Rows.{hasKey, nothing, rows, there}

@@ -16,8 +16,8 @@ use Rattle.laws.specs.Tests.{and-both, and-left, and-right, and-true, one-truth
 use Rattle.record.specs.Codes.{completed, kindAccount, kindBand, kindCash, kindCustomer, kindCustomerRate, kindLot}
 use Rattle.record.specs.Codes.{kindLotHistory, kindRequest, kindSettlement, kindSummary, kindTrade, kindTradeHistory}
 use Rattle.record.specs.Codes.{pending, tlb}
-use Rattle.rules.specs.Key.{among}
-use Rattle.rules.specs.declared.key.Key.{Key}
+use Rattle.keys.specs.Key.{among}
+use Rattle.keys.specs.declared.Key.{Key}
 use Rattle.record.specs.Symbol.{same-symbol, sameSymbol}
 use Rattle.record.specs.declared.row.Row.{Row}
 use Rattle.rules.specs.Rules.{fits, no-kind}

@@ -5,7 +5,7 @@ ghost use mathlib.Core.Bool.{_&&_, false, true};
 ghost use Prim.Native.Nat.{_<_, _≤_};
 ghost use Rattle.record.specs.Codes.{kindSecurity, kindSummary, kindTrade};
 ghost use Rattle.rules.specs.Rules.{fits};
-ghost use Rattle.rules.specs.Key.{among};
+ghost use Rattle.keys.specs.Key.{among};
 ghost use Rattle.model.specs.Rows.{places, rows};
 ghost use Rattle.model.specs.Sound.{s1, sound};
 ghost use Rattle.places.specs.Rows.{rowAt};

@@ -9,10 +9,10 @@ ghost use Rattle.directory.specs.Listed.{Listed};
 use directory::typed;
 use kinds::rows::Account;
 use kinds::rows::CustomerRate;
-use kinds::units::AccountNo;
 use places::place::part;
 use record::row::Grid;
 use record::symbol::Symbol;
+use units::AccountNo;
 
 // What the customer's rate at a place names.
 pub fn rated(book: &[u8], dir: &[u16], i: usize) -> bool

@@ -19,12 +19,12 @@ use kinds::rows::LotHistory;
 use kinds::rows::Request;
 use kinds::rows::Settlement;
 use kinds::rows::Trade;
-use kinds::units::AccountNo;
-use kinds::units::BrokerNo;
-use kinds::units::TradeNo;
 use places::place::part;
 use places::place::record_at;
 use record::codes::TradeStatus;
+use units::AccountNo;
+use units::BrokerNo;
+use units::TradeNo;
 
 // The broker of an account, 0 where there is no such account.
 fn broker_of(book: &[u8], dir: &[u16], no: AccountNo) -> BrokerNo

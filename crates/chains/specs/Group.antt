@@ -10,9 +10,9 @@ use borrow.Author.Tests.{ne-eqb, eqb-true}
 use Rattle.laws.specs.Tests.{and-true, or-false}
 use Rattle.record.specs.Codes.{kindAccount, kindBand, kindBroker, kindCharge, kindFree, kindLot, kindRequest}
 use Rattle.record.specs.Codes.{kindSecurity, kindSummary, kindTrade, kindTradeHistory}
-use Rattle.rules.specs.Key.{among, byId, byParty, bySymbol, keyOf}
-use Rattle.rules.specs.Marks.{allKeys, marks-are, marksOf}
-use Rattle.rules.specs.declared.key.Key.{Key}
+use Rattle.keys.specs.Key.{among, byId, byParty, bySymbol, keyOf}
+use Rattle.keys.specs.Marks.{allKeys, marks-are, marksOf}
+use Rattle.keys.specs.declared.Key.{Key}
 use Rattle.kinds.specs.declared.limits.Marks.{Marks}
 use Rattle.record.specs.Symbol.{noSymbol, symbolNumber}
 use Rattle.record.specs.declared.row.Row.{Row}

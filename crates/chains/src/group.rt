@@ -12,14 +12,14 @@ ghost use Rattle.chains.specs.Chains.{half};
 ghost use Rattle.chains.specs.Group.{aGroup, bucketOf, groupOf, hashOf, keyGroup, letters, lotGroup, mostHeads};
 ghost use Rattle.chains.specs.Group.{requestGroup, spread};
 use crate::chain;
-use kinds::units::AccountNo;
-use kinds::units::CustomerNo;
+use keys::Key;
+use keys::marks;
 use record::bytes::wide32;
 use record::codes::Kind;
 use record::row::Row;
 use record::symbol::Symbol;
-use rules::key::Key;
-use rules::key::marks;
+use units::AccountNo;
+use units::CustomerNo;
 
 fn wide8(x: u8) -> u64
     ensures { λ r. ⌜ (r ≡ x) × (r < 256) ⌝ }

@@ -10,8 +10,8 @@ use Rattle.record.specs.Signed.{up}
 use Rattle.record.specs.declared.row.Row.{Row}
 use Rattle.kinds.specs.Written.{accountRow, brokerRow, summaryRow, tradeRow}
 use Rattle.kinds.specs.declared.inputs.ResultInput.{ResultInput}
-use Rattle.kinds.specs.declared.units.Cents.{Cents}
-use Rattle.kinds.specs.declared.units.Shares.{Shares}
+use Rattle.units.specs.declared.Cents.{Cents}
+use Rattle.units.specs.declared.Shares.{Shares}
 use Rattle.model.specs.Flags.{cash}
 use Rattle.model.specs.Order.{tradeId}
 use Rattle.model.specs.Result.{brokerAfter, gone, holding, tradeAfter}

@@ -9,7 +9,7 @@ use lib.ListN.{getD}
 use Rattle.laws.specs.Search.{bit}
 use Rattle.record.specs.Codes.{completed, kindCash, kindLot, kindRequest, kindSettlement, kindTradeHistory, pending}
 use Rattle.record.specs.declared.row.Row.{Row}
-use Rattle.rules.specs.Key.{among}
+use Rattle.keys.specs.Key.{among}
 use Rattle.model.specs.Flags.{cash}
 use Rattle.model.specs.Names.{anAccount}
 use Rattle.model.specs.Rows.{found}

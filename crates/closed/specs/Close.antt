@@ -17,11 +17,11 @@ use Rattle.record.specs.Codes.{kindFree}
 use Rattle.record.specs.Signed.{up}
 use Rattle.record.specs.declared.row.Row.{Row}
 use Rattle.kinds.specs.Kinds.{lotOf}
-use Rattle.kinds.specs.Units.{shares}
+use Rattle.units.specs.Units.{shares}
 use Rattle.kinds.specs.Written.{lotRow, tradeRow}
 use Rattle.kinds.specs.declared.rows.Lot.{Lot}
 use Rattle.kinds.specs.declared.rows.Trade.{Trade}
-use Rattle.kinds.specs.declared.units.Shares.{Shares}
+use Rattle.units.specs.declared.Shares.{Shares}
 use Rattle.rules.specs.Ranges.{priceMost, sharesMost}
 use Rattle.model.specs.Lots.{Closing, closings, size, taken}
 use Rattle.model.specs.Order.{tradeId}
@@ -33,7 +33,7 @@ use Rattle.money.specs.Amounts.{UpTo, up-to, valueMost}
 use Rattle.walk.specs.Walk.{Within, restOf, stepped}
 use Rattle.walk.specs.declared.Walk.{Walk}
 use Rattle.chains.specs.Group.{groupOf}
-use Rattle.directory.specs.Added.{Added, Room, added-keeps, room-first, room-next}
+use Rattle.upkeep.specs.Added.{Added, Room, added-keeps, room-first, room-next}
 use Rattle.directory.specs.Directory.{Directory}
 use Rattle.directory.specs.declared.totals.Totals.{Totals}
 use Rattle.written.specs.Turned.{Ready, Turned, may-go, may-stay, ready-next, turned-none, turned-one}

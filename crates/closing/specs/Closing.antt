@@ -15,7 +15,7 @@ use Rattle.record.specs.Codes.{kindLot}
 use Rattle.record.specs.Symbol.{sameSymbol}
 use Rattle.record.specs.declared.row.Row.{Row}
 use Rattle.record.specs.declared.symbol.Symbol.{Symbol}
-use Rattle.kinds.specs.declared.units.AccountNo.{AccountNo}
+use Rattle.units.specs.declared.AccountNo.{AccountNo}
 use Rattle.rules.specs.Meaning.{means-lot}
 use Rattle.rules.specs.Ranges.{priceMost}
 use Rattle.rules.specs.Rules.{as-kind, fits}

@@ -12,10 +12,10 @@ use Rattle.laws.specs.Search.{run}
 use Rattle.record.specs.declared.row.Row.{Row}
 use Rattle.record.specs.declared.symbol.Symbol.{Symbol}
 use Rattle.kinds.specs.Kinds.{lotOf}
-use Rattle.kinds.specs.Units.{shares}
+use Rattle.units.specs.Units.{shares}
 use Rattle.kinds.specs.declared.rows.Lot.{Lot}
-use Rattle.kinds.specs.declared.units.AccountNo.{AccountNo}
-use Rattle.kinds.specs.declared.units.Price.{Price}
+use Rattle.units.specs.declared.AccountNo.{AccountNo}
+use Rattle.units.specs.declared.Price.{Price}
 use Rattle.model.specs.Lots.{closings, lotsFor}
 use Rattle.model.specs.Lots
 use Rattle.model.specs.Money.{buys}

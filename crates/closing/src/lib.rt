@@ -21,7 +21,6 @@ use directory::build::places;
 use groups::lots::first_lot;
 use groups::lots::next_lot;
 use kinds::rows::Lot;
-use kinds::units::AccountNo;
 use money::sides::buys;
 use places::count::bit;
 use record::symbol::Symbol;
@@ -29,6 +28,7 @@ use sorted::By;
 use sorted::Sorted;
 use sorted::lot_at;
 use sorted::sort;
+use units::AccountNo;
 use walk::Walk;
 
 // Whose lots a trade closes, of which symbol, on which side, and in which order.

@@ -14,9 +14,9 @@ use Rattle.laws.specs.Search.{count, every, means-every, the}
 use Rattle.laws.specs.Tests.{Means, and-assoc, means-and, means-eq, means-le}
 use Rattle.record.specs.Codes.{kindAccount, kindCharge, kindFree, kindSecurity, kindTrade}
 use Rattle.record.specs.Grid.{decode}
-use Rattle.rules.specs.Key.{keyOf, sameKey}
+use Rattle.keys.specs.Key.{keyOf, sameKey}
 use Rattle.record.specs.Symbol.{means-same, sameSymbol}
-use Rattle.rules.specs.declared.key.Key.{Key}
+use Rattle.keys.specs.declared.Key.{Key}
 use Rattle.record.specs.declared.row.Row.{Row}
 use Rattle.record.specs.declared.symbol.Symbol.{Symbol}
 use Rattle.rules.specs.Meaning.{means-account, means-feed-input, means-lookup-input, means-order-input}

@@ -15,7 +15,7 @@ use Rattle.laws.specs.Search.{bit, count, largest, total}
 use Rattle.laws.specs.Tests.{and-left, and-right}
 use Rattle.laws.specs.Walk.{left-next, left-none}
 use Rattle.record.specs.Codes.{kindFree, kindTrade}
-use Rattle.rules.specs.declared.key.Key.{Key}
+use Rattle.keys.specs.declared.Key.{Key}
 use Rattle.record.specs.declared.row.Row.{Row}
 use Rattle.model.specs.Order.{tradeId}
 use Rattle.model.specs.Plan.{room}

@@ -6,7 +6,7 @@ use Prim.Native.Nat.{ℕ}
 use lib.Dec.{leb, ltb}
 use Rattle.laws.specs.Place.{some-place, the-place}
 use Rattle.laws.specs.Search.{count, place, the}
-use Rattle.rules.specs.declared.key.Key.{Key}
+use Rattle.keys.specs.declared.Key.{Key}
 use Rattle.record.specs.declared.row.Row.{Row}
 use Rattle.model.specs.Rows.{found, hasKey, nothing, rows, there}
 use Rattle.facts.specs.Rows.{length-rows}

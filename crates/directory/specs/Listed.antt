@@ -12,9 +12,9 @@ use borrow.Author.Tests.{eq-eqb, eqb-true, eqb-false}
 use Rattle.laws.specs.Chain.{Chained, numbered}
 use Rattle.laws.specs.Search.{place, seek, total}
 use Rattle.laws.specs.Walk.{from, from-high, from-holds, from-low, from-passes, from-skips, left-next, left-none}
-use Rattle.rules.specs.Key.{keyOf}
-use Rattle.rules.specs.KeyLaws.{same-keys}
-use Rattle.rules.specs.declared.key.Key.{Key}
+use Rattle.keys.specs.Key.{keyOf}
+use Rattle.keys.specs.KeyLaws.{same-keys}
+use Rattle.keys.specs.declared.Key.{Key}
 use Rattle.record.specs.declared.row.Row.{Row}
 use Rattle.model.specs.Rows.{hasKey, is, mostRecords, nothing, rows}
 use Rattle.places.specs.Loop.{Sought, seek-found, seek-more, seek-none}

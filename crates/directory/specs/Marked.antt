@@ -10,9 +10,9 @@ use Rattle.record.specs.Symbol.{noSymbol, sameSymbol, symbol-itself}
 use Rattle.record.specs.declared.row.Row.{Row}
 use Rattle.record.specs.declared.symbol.Symbol.{Symbol}
 use Rattle.kinds.specs.declared.limits.Marks.{Marks}
-use Rattle.rules.specs.Key.{among, byFlags, byForm, byId, byM2, byN1, byParty, byStatus, bySymbol, keyOf, sameKey}
-use Rattle.rules.specs.Marks.{allKeys, listed, marks-are, marksOf}
-use Rattle.rules.specs.declared.key.Key.{Key}
+use Rattle.keys.specs.Key.{among, byFlags, byForm, byId, byM2, byN1, byParty, byStatus, bySymbol, keyOf, sameKey}
+use Rattle.keys.specs.Marks.{allKeys, listed, marks-are, marksOf}
+use Rattle.keys.specs.declared.Key.{Key}
 use Rattle.model.specs.Names.{key}
 use Rattle.model.specs.Rows.{hasKey}
 use Rattle.chains.specs.Group.{aGroup, keyGroup}

@@ -8,11 +8,11 @@ use crate::totals::Totals;
 use crate::totals::raised;
 use chains::chain::link;
 use chains::group;
-use kinds::units::TradeNo;
 use places::count::bit;
 use places::place::row_at;
 use record::codes::Kind;
 use record::row::Grid;
+use units::TradeNo;
 
 // The number of a book's places.
 pub fn places(book: &[u8]) -> usize

@@ -4,20 +4,20 @@ ghost use mathlib.Core.Bool.{false};
 ghost use Prim.Native.Nat.{_+_, _<_};
 ghost use lib.ListN.{drop};
 ghost use Rattle.laws.specs.Search.{seek};
-ghost use Rattle.rules.specs.Key.{keyOf};
-ghost use Rattle.rules.specs.Marks.{allKeys, marksOf};
+ghost use Rattle.keys.specs.Key.{keyOf};
+ghost use Rattle.keys.specs.Marks.{allKeys, marksOf};
 ghost use Rattle.model.specs.Rows.{hasKey, rows};
 ghost use Rattle.places.specs.Rows.{rowAt};
 ghost use Rattle.chains.specs.Group.{apart, keyGroup};
 ghost use Rattle.directory.specs.Listed.{InBucket, Listed, places};
 ghost use Rattle.directory.specs.Marked.{trimmed};
 use chains::chain::next;
+use keys::Key;
+use keys::marks;
 use kinds::limits::Marks;
 use places::place::row_at;
 use record::row::Grid;
 use record::row::Row;
-use rules::key::Key;
-use rules::key::marks;
 
 // The row has the key. Of its fields those are compared that the marks of the key's kind name, and where they lie.
 fn has(m: Marks, key: Key, row: Row) -> bool

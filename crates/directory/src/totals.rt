@@ -2,9 +2,9 @@
 ghost use mathlib.Core.Path.{_≡_};
 ghost use Prim.Native.Nat.{max};
 ghost use Rattle.model.specs.Order.{tradeId};
-use kinds::units::TradeNo;
 use record::codes::Kind;
 use record::row::Row;
+use units::TradeNo;
 
 // The number of free places, and the largest trade number, 0 where there is no trade.
 pub struct Totals {

@@ -12,15 +12,15 @@ ghost use Rattle.directory.specs.Listed.{Listed};
 ghost use Rattle.directory.specs.Marked.{trimmed};
 use crate::find::walk;
 use chains::group;
-use kinds::units::AccountNo;
-use kinds::units::BrokerNo;
-use kinds::units::CustomerNo;
-use kinds::units::RateNo;
-use kinds::units::TradeNo;
+use keys::Key;
+use keys::marks;
 use record::codes::Kind;
 use record::symbol::Symbol;
-use rules::key::Key;
-use rules::key::marks;
+use units::AccountNo;
+use units::BrokerNo;
+use units::CustomerNo;
+use units::RateNo;
+use units::TradeNo;
 
 // Each search makes a key of what it is asked for, and walks the chain of its group.
 fn named(

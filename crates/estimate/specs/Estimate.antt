@@ -10,11 +10,11 @@ use borrow.Author.Tests.{le-leb, lt-leb}
 use Rattle.record.specs.Codes.{tms}
 use Rattle.record.specs.Signed.{up}
 use Rattle.record.specs.declared.row.Row.{Row}
-use Rattle.kinds.specs.Units.{cents}
+use Rattle.units.specs.Units.{cents}
 use Rattle.kinds.specs.declared.inputs.OrderInput.{OrderInput}
 use Rattle.kinds.specs.declared.rows.Security.{Security}
-use Rattle.kinds.specs.declared.units.Cents.{Cents}
-use Rattle.kinds.specs.declared.units.Price.{Price}
+use Rattle.units.specs.declared.Cents.{Cents}
+use Rattle.units.specs.declared.Price.{Price}
 use Rattle.rules.specs.Ranges.{priceMost}
 use Rattle.model.specs.Lots.{closings, lotsFor}
 use Rattle.model.specs.Lots

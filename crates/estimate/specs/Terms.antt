@@ -12,14 +12,14 @@ use Rattle.record.specs.declared.row.Row.{Row}
 use Rattle.record.specs.declared.symbol.Symbol.{Symbol}
 use Rattle.kinds.specs.Inputs.{orderInputOf}
 use Rattle.kinds.specs.Kinds.{accountOf, securityOf}
-use Rattle.kinds.specs.Units.{cents}
+use Rattle.units.specs.Units.{cents}
 use Rattle.kinds.specs.declared.inputs.OrderInput.{OrderInput}
 use Rattle.kinds.specs.declared.rows.Account.{Account}
 use Rattle.kinds.specs.declared.rows.Security.{Security}
-use Rattle.kinds.specs.declared.units.AccountNo.{AccountNo}
-use Rattle.kinds.specs.declared.units.Cents.{Cents}
-use Rattle.kinds.specs.declared.units.PerHundredThousand.{PerHundredThousand}
-use Rattle.kinds.specs.declared.units.PerTenThousand.{PerTenThousand}
+use Rattle.units.specs.declared.AccountNo.{AccountNo}
+use Rattle.units.specs.declared.Cents.{Cents}
+use Rattle.units.specs.declared.PerHundredThousand.{PerHundredThousand}
+use Rattle.units.specs.declared.PerTenThousand.{PerTenThousand}
 use Rattle.rules.specs.Meaning.{means-order-input}
 use Rattle.rules.specs.Ranges.{commissionPart, priceMost, sharesMost, taxPart}
 use Rattle.rules.specs.Rules.{orderInput}

@@ -17,13 +17,13 @@ use closing::gather;
 use closing::walked;
 use kinds::inputs::OrderInput;
 use kinds::rows::Security;
-use kinds::units::Cents;
-use kinds::units::Price;
 use money::fees::commission;
 use money::fees::tax;
 use money::fees::untaxed;
 use record::codes::TradeType;
 use sorted::Sorted;
+use units::Cents;
+use units::Price;
 use walk::Walk;
 
 pub struct Estimate {

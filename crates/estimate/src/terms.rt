@@ -2,7 +2,7 @@
 ghost use mathlib.Core.Bool.{true};
 ghost use mathlib.Core.Path.{_≡_};
 ghost use lib.IntN.{pos};
-ghost use Rattle.kinds.specs.Units.{cents};
+ghost use Rattle.units.specs.Units.{cents};
 ghost use Rattle.model.specs.Names.{aCharge, aCustomer};
 ghost use Rattle.model.specs.Rows.{found, rows};
 ghost use Rattle.model.specs.Sound.{sound};
@@ -19,14 +19,14 @@ use kinds::rows::Account;
 use kinds::rows::Charge;
 use kinds::rows::Customer;
 use kinds::rows::Security;
-use kinds::units::AccountNo;
-use kinds::units::Cents;
-use kinds::units::CustomerNo;
-use kinds::units::PerHundredThousand;
-use kinds::units::PerTenThousand;
-use kinds::units::TradeNo;
 use places::place::record_at;
 use record::symbol::Symbol;
+use units::AccountNo;
+use units::Cents;
+use units::CustomerNo;
+use units::PerHundredThousand;
+use units::PerTenThousand;
+use units::TradeNo;
 
 // An account, and whether it is there.
 pub struct Holder {

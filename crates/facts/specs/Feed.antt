@@ -14,7 +14,7 @@ use Rattle.laws.specs.Search.{every, keep, run, total}
 use Rattle.laws.specs.Tests.{and-assoc, and-false, and-right, and-true}
 use Rattle.record.specs.Codes.{kindFree, kindSecurity, kindTrade, kindTradeHistory, pending, submitted}
 use Rattle.record.specs.Symbol.{same-symbol, sameSymbol}
-use Rattle.rules.specs.declared.key.Key.{Key}
+use Rattle.keys.specs.declared.Key.{Key}
 use Rattle.record.specs.declared.row.Row.{Row}
 use Rattle.record.specs.declared.symbol.Symbol.{Symbol}
 use Rattle.rules.specs.Ranges.{volume}

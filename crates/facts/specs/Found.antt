@@ -14,9 +14,9 @@ use Rattle.laws.specs.Place.{every-at, some-place, the-none, the-passes, the-pl
 use Rattle.laws.specs.Search.{count, keep, place, the}
 use Rattle.laws.specs.Tests.{and-both}
 use Rattle.record.specs.Codes.{kindFree}
-use Rattle.rules.specs.Key.{among, keyOf}
-use Rattle.rules.specs.KeyLaws.{same-keys}
-use Rattle.rules.specs.declared.key.Key.{Key}
+use Rattle.keys.specs.Key.{among, keyOf}
+use Rattle.keys.specs.KeyLaws.{same-keys}
+use Rattle.keys.specs.declared.Key.{Key}
 use Rattle.record.specs.declared.row.Row.{Row}
 use Rattle.rules.specs.Rules.{fits}
 use Rattle.model.specs.Names.{byId}

@@ -7,9 +7,9 @@ use lib.Dec.{eqb}
 use borrow.Author.Tests.{ne-eqb, eqb-false, eq-eqb}
 use Rattle.laws.specs.Search.{bit}
 use Rattle.record.specs.Codes.{kindFree}
-use Rattle.rules.specs.Key.{keyOf, sameKey}
-use Rattle.rules.specs.KeyLaws.{key-itself, same-keys}
-use Rattle.rules.specs.declared.key.Key.{Key}
+use Rattle.keys.specs.Key.{keyOf, sameKey}
+use Rattle.keys.specs.KeyLaws.{key-itself, same-keys}
+use Rattle.keys.specs.declared.Key.{Key}
 use Rattle.record.specs.declared.row.Row.{Row}
 use Rattle.model.specs.Rows.{hasKey, is, nothing}
 use Rattle.facts.specs.Names.{other-kind}

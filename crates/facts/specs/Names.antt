@@ -9,9 +9,9 @@ use borrow.Author.Tests.{eq-eqb, eqb-true}
 use Rattle.laws.specs.Tests.{and-assoc, and-true, or-cases}
 use Rattle.record.specs.Codes.{kindAccount, kindBroker, kindCash, kindCustomer, kindLot, kindRequest, kindSecurity}
 use Rattle.record.specs.Codes.{kindSettlement, kindSummary, kindTaxRate, kindTrade, kindTradeHistory}
-use Rattle.rules.specs.Key.{among, keyOf, sameKey}
+use Rattle.keys.specs.Key.{among, keyOf, sameKey}
 use Rattle.record.specs.Symbol.{sameSymbol}
-use Rattle.rules.specs.declared.key.Key.{Key}
+use Rattle.keys.specs.declared.Key.{Key}
 use Rattle.record.specs.declared.row.Row.{Row}
 use Rattle.record.specs.declared.symbol.Symbol.{Symbol}
 use Rattle.model.specs.Names.{aHistory, aSecurity, aSummary, byId, byParty}

@@ -16,9 +16,9 @@ use Rattle.laws.specs.Search.{bit, count, keep, total}
 use Rattle.laws.specs.Tests.{and-right}
 use Rattle.record.specs.Codes.{completed, kindAccount, kindBroker, kindCash, kindFree, kindLot, kindLotHistory}
 use Rattle.record.specs.Codes.{kindSettlement, kindSummary, kindTrade, kindTradeHistory, submitted}
-use Rattle.rules.specs.Key.{keyOf}
-use Rattle.rules.specs.KeyLaws.{keys-tell, same-keys}
-use Rattle.rules.specs.declared.key.Key.{Key}
+use Rattle.keys.specs.Key.{keyOf}
+use Rattle.keys.specs.KeyLaws.{keys-tell, same-keys}
+use Rattle.keys.specs.declared.Key.{Key}
 use Rattle.record.specs.declared.row.Row.{Row}
 use Rattle.model.specs.Flags.{cash}
 use Rattle.model.specs.Lots.{Closing, closings, lotsFor}

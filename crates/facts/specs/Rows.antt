@@ -17,7 +17,7 @@ use Rattle.laws.specs.Tests.{eqb-itself}
 use Rattle.record.specs.Codes.{kindFree}
 use Rattle.record.specs.Grid.{decode, row-eq}
 use Rattle.record.specs.Symbol.{numbered, sameSymbol, symbol-eq, symbol-itself, symbolNumber}
-use Rattle.rules.specs.declared.key.Key.{Key}
+use Rattle.keys.specs.declared.Key.{Key}
 use Rattle.record.specs.declared.row.Row.{Row}
 use Rattle.rules.specs.Meaning.{means-free}
 use Rattle.rules.specs.Rules.{as-kind, fits}

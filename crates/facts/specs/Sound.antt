@@ -6,8 +6,8 @@ use mathlib.Core.Logic.{⊎-elim}
 use borrow.Author.Tests.{eqb-false, le-leb}
 use Rattle.laws.specs.Search.{count}
 use Rattle.record.specs.Codes.{kindAccount, kindFree, kindTrade}
-use Rattle.rules.specs.Key.{keyOf}
-use Rattle.rules.specs.declared.key.Key.{Key}
+use Rattle.keys.specs.Key.{keyOf}
+use Rattle.keys.specs.declared.Key.{Key}
 use Rattle.record.specs.declared.row.Row.{Row}
 use Rattle.model.specs.Names.{aBroker, aCustomer, aSecurity, anAccount, named}
 use Rattle.model.specs.Rows.{hasKey, is, there}

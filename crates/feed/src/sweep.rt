@@ -9,7 +9,6 @@ ghost use Rattle.places.specs.Rows.{rowAt};
 ghost use Rattle.directory.specs.Directory.{Directory};
 ghost use Rattle.feed.specs.Sweep.{leaves, left};
 use directory::build::places;
-use directory::change::free;
 use directory::totals::Totals;
 use groups::requests::first_request;
 use groups::requests::next_request;
@@ -17,6 +16,7 @@ use hits::judge::entry_at;
 use hits::judge::hits;
 use kinds::inputs::FeedInput;
 use sorted::request_at;
+use upkeep::free;
 
 // A request that the entry hits leaves.
 fn sweep_one(book: &mut [u8], dir: &mut [u16], t: Totals, entry: FeedInput, at: usize) -> Totals

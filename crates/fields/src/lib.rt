@@ -46,17 +46,17 @@ fn row_fits(r: Row, known: Symbol) -> bool
         Kind::SECURITY => in_limits(r, ranges::security()) & beyond(r, Security::BEYOND, known),
         Kind::BAND => in_limits(r, ranges::band()) & beyond(r, Band::BEYOND, known),
         Kind::CHARGE => in_limits(r, ranges::charge()) & beyond(r, Charge::BEYOND, known),
-        Kind::TRADE => in_limits(r, ranges::trade()) & beyond(r, Trade::BEYOND, known),
-        Kind::REQUEST => in_limits(r, ranges::request()) & beyond(r, Request::BEYOND, known),
-        Kind::TRADE_HISTORY => in_limits(r, ranges::trade_history())
+        Kind::TRADE => in_limits(r, trade_ranges::trade()) & beyond(r, Trade::BEYOND, known),
+        Kind::REQUEST => in_limits(r, trade_ranges::request()) & beyond(r, Request::BEYOND, known),
+        Kind::TRADE_HISTORY => in_limits(r, trade_ranges::trade_history())
             & beyond(r, TradeHistory::BEYOND, known),
-        Kind::LOT => in_limits(r, ranges::lot()) & beyond(r, Lot::BEYOND, known),
-        Kind::SUMMARY => in_limits(r, ranges::summary()) & beyond(r, Summary::BEYOND, known),
-        Kind::LOT_HISTORY => in_limits(r, ranges::lot_history())
+        Kind::LOT => in_limits(r, trade_ranges::lot()) & beyond(r, Lot::BEYOND, known),
+        Kind::SUMMARY => in_limits(r, trade_ranges::summary()) & beyond(r, Summary::BEYOND, known),
+        Kind::LOT_HISTORY => in_limits(r, trade_ranges::lot_history())
             & beyond(r, LotHistory::BEYOND, known),
-        Kind::SETTLEMENT => in_limits(r, ranges::settlement())
+        Kind::SETTLEMENT => in_limits(r, trade_ranges::settlement())
             & beyond(r, Settlement::BEYOND, known),
-        Kind::CASH => in_limits(r, ranges::cash()) & beyond(r, Cash::BEYOND, known),
+        Kind::CASH => in_limits(r, trade_ranges::cash()) & beyond(r, Cash::BEYOND, known),
         _ => false,
     }
 }

@@ -11,7 +11,7 @@ use Rattle.record.specs.Signed.{up}
 use Rattle.record.specs.declared.row.Row.{Row}
 use Rattle.kinds.specs.Inputs.{resultInputOf}
 use Rattle.kinds.specs.Kinds.{accountOf, summaryOf, tradeOf}
-use Rattle.kinds.specs.Units.{cents, shares}
+use Rattle.units.specs.Units.{cents, shares}
 use Rattle.kinds.specs.declared.inputs.ResultInput.{ResultInput}
 use Rattle.rules.specs.Ranges.{charged, commissionPart, moneyMost, priceMost, sharesMost, taxPart}
 use Rattle.rules.specs.Rules.{resultInput}

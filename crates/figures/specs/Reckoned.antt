@@ -11,7 +11,7 @@ use Rattle.record.specs.Codes.{kindLot}
 use Rattle.record.specs.declared.row.Row.{Row}
 use Rattle.kinds.specs.Inputs.{resultInputOf}
 use Rattle.kinds.specs.Kinds.{tradeOf}
-use Rattle.kinds.specs.Units.{shares}
+use Rattle.units.specs.Units.{shares}
 use Rattle.kinds.specs.declared.inputs.ResultInput.{ResultInput}
 use Rattle.rules.specs.Meaning.{means-lot}
 use Rattle.rules.specs.Ranges.{fee, priceMost, sharesMost}

@@ -16,8 +16,6 @@ ghost use Rattle.figures.specs.Figures.{Ranged, figuresBy};
 ghost use Rattle.figures.specs.Reckoned.{Reckoned};
 use closing::walked;
 use kinds::inputs::ResultInput;
-use kinds::units::Cents;
-use kinds::units::Shares;
 use money::fees::commission;
 use money::fees::tax;
 use money::fees::untaxed;
@@ -27,6 +25,8 @@ use money::settle::settlement;
 use money::sides::summed;
 use reading::terms::Terms;
 use sorted::Sorted;
+use units::Cents;
+use units::Shares;
 use walk::Walk;
 
 pub struct Figures {

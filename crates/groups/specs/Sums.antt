@@ -23,14 +23,14 @@ use Rattle.record.specs.declared.symbol.Symbol.{Symbol}
 use Rattle.record.specs.Grid.{decode}
 use Rattle.kinds.specs.Kinds.{bandOf, customerRateOf, taxRateOf}
 use Rattle.kinds.specs.Kinds as kinds
-use Rattle.kinds.specs.Units.{shares}
+use Rattle.units.specs.Units.{shares}
 use Rattle.kinds.specs.declared.rows.Band.{Band}
-use Rattle.kinds.specs.declared.units.Shares.{Shares}
+use Rattle.units.specs.declared.Shares.{Shares}
 use Rattle.kinds.specs.declared.rows.CustomerRate.{CustomerRate}
 use Rattle.kinds.specs.declared.rows.TaxRate.{TaxRate}
 use Rattle.kinds.specs.declared.rows.Lot.{Lot}
-use Rattle.rules.specs.Key.{keyOf}
-use Rattle.rules.specs.declared.key.Key.{Key}
+use Rattle.keys.specs.Key.{keyOf}
+use Rattle.keys.specs.declared.Key.{Key}
 use Rattle.rules.specs.Meaning.{means-lot}
 use Rattle.rules.specs.Ranges.{sharesMost}
 use Rattle.rules.specs.Rules.{as-kind, fits}

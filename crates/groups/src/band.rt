@@ -10,12 +10,12 @@ ghost use Rattle.directory.specs.Listed.{Listed};
 use chains::chain::next;
 use chains::group;
 use kinds::rows::Band;
-use kinds::units::PerTenThousand;
-use kinds::units::Shares;
 use places::place::part;
 use places::place::record_at;
 use record::codes::Kind;
 use record::row::Grid;
+use units::PerTenThousand;
+use units::Shares;
 
 // The record at a place is the band that holds the shares.
 fn holds(book: &[u8], form: u8, tier: u8, exchange: u8, shares: Shares, at: usize) -> bool

@@ -14,11 +14,11 @@ use crate::turn::first_of;
 use crate::turn::next_of;
 use chains::group;
 use kinds::rows::Lot;
-use kinds::units::AccountNo;
 use places::place::part;
 use record::codes::Kind;
 use record::row::Grid;
 use record::symbol::Symbol;
+use units::AccountNo;
 
 // A lot is of an account and symbol.
 pub fn in_holding(account: AccountNo, symbol: Symbol, lot: Lot) -> bool

@@ -22,10 +22,6 @@ use kinds::rows::Band;
 use kinds::rows::CustomerRate;
 use kinds::rows::Lot;
 use kinds::rows::TaxRate;
-use kinds::units::AccountNo;
-use kinds::units::CustomerNo;
-use kinds::units::PerHundredThousand;
-use kinds::units::Shares;
 use places::count::bit;
 use places::place::part;
 use places::place::record_at;
@@ -33,6 +29,10 @@ use record::bytes::wide32;
 use record::codes::Kind;
 use record::row::Grid;
 use record::symbol::Symbol;
+use units::AccountNo;
+use units::CustomerNo;
+use units::PerHundredThousand;
+use units::Shares;
 
 // Two bands have shares in common.
 fn overlap(a: Band, b: Band) -> bool

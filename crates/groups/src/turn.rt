@@ -13,10 +13,10 @@ use crate::lots::held;
 use crate::requests::asked;
 use chains::chain::next;
 use chains::group;
-use kinds::units::AccountNo;
+use keys::Key;
 use record::codes::Kind;
 use record::row::Grid;
-use rules::key::Key;
+use units::AccountNo;
 
 // The record at a place is of a group.
 fn member(book: &[u8], group: Key, at: usize) -> bool

@@ -20,9 +20,9 @@ use Rattle.record.specs.Codes.{pending, tlb}
 use Rattle.record.specs.declared.row.Row.{Row}
 use Rattle.kinds.specs.Kinds.{tradeOf}
 use Rattle.kinds.specs.declared.rows.Trade.{Trade}
-use Rattle.rules.specs.Key.{among, keyOf}
-use Rattle.rules.specs.KeyLaws.{keys-tell, same-keys}
-use Rattle.rules.specs.declared.key.Key.{Key}
+use Rattle.keys.specs.Key.{among, keyOf}
+use Rattle.keys.specs.KeyLaws.{keys-tell, same-keys}
+use Rattle.keys.specs.declared.Key.{Key}
 use Rattle.rules.specs.Meaning.{means-trade, means-trade-history}
 use Rattle.rules.specs.Rules.{as-kind, fits}
 use Rattle.model.specs.Flags.{cash}

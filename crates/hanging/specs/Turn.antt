@@ -13,7 +13,7 @@ use Rattle.laws.specs.Search.{place}
 use Rattle.laws.specs.Tests.{and-both, and-left, and-right}
 use Rattle.record.specs.Codes.{kindFree}
 use Rattle.record.specs.declared.row.Row.{Row}
-use Rattle.rules.specs.Key.{among, keyOf}
+use Rattle.keys.specs.Key.{among, keyOf}
 use Rattle.rules.specs.Rules.{fits}
 use Rattle.model.specs.Names.{aTrade}
 use Rattle.model.specs.Rows.{found, hasKey, mostRecords, rows, there}

@@ -5,7 +5,7 @@ ghost use mathlib.Core.Bool.{true};
 ghost use Prim.Native.Nat.{_+_, _*_, _<_};
 ghost use Rattle.laws.specs.Search.{bit};
 ghost use Rattle.record.specs.Codes.{kindTrade};
-ghost use Rattle.rules.specs.Key.{among};
+ghost use Rattle.keys.specs.Key.{among};
 ghost use Rattle.model.specs.Rows.{places, rows};
 ghost use Rattle.model.specs.Sound.{s1, s2, sound};
 ghost use Rattle.places.specs.Rows.{rowAt};
@@ -25,13 +25,13 @@ use clauses::hung::offset;
 use directory::typed::trade;
 use fields::fits_beside;
 use kinds::rows::Trade;
-use kinds::units::TradeNo;
 use places::place::part;
 use places::place::row_at;
 use record::codes::Kind;
 use record::codes::TradeStatus;
 use record::codes::TradeType;
 use record::row::Grid;
+use units::TradeNo;
 
 // Eight marks for each place: a trade's are those of its request (0), its histories (their status), its lot (5), its
 // settlement (6) and its cash (7).

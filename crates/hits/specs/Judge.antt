@@ -47,11 +47,11 @@ use Rattle.places.specs.Rows.{rowAt, rows-at, rows-past}
 use Rattle.directory.specs.Found.{key-row, key-there}
 use Rattle.kinds.specs.Inputs.{feedInputOf}
 use Rattle.kinds.specs.Kinds.{securityOf}
-use Rattle.kinds.specs.Units.{shares, signedMost}
+use Rattle.units.specs.Units.{shares, signedMost}
 use Rattle.kinds.specs.declared.inputs.FeedInput.{FeedInput}
 use Rattle.kinds.specs.declared.rows.Request.{Request}
 use Rattle.kinds.specs.declared.rows.Security.{Security}
-use Rattle.kinds.specs.declared.units.Shares.{Shares}
+use Rattle.units.specs.declared.Shares.{Shares}
 use Rattle.hits.specs.Hits.{anyReaches, due, reaches}
 use Rattle.hits.specs.Due.{trades-due}
 

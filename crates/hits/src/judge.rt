@@ -27,7 +27,6 @@ use kinds::inputs::FeedInput;
 use kinds::limits::Ranges;
 use kinds::rows::Request;
 use kinds::rows::Security;
-use kinds::units::Shares;
 use model::Status;
 use places::place::record_at;
 use record::codes::TradeType;
@@ -35,6 +34,7 @@ use record::row::Grid;
 use record::symbol::Symbol;
 use reply::also;
 use sorted::request_at;
+use units::Shares;
 
 // The entry at a place of the input.
 pub fn entry_at(input: &[u8], i: usize) -> FeedInput

@@ -1,6 +1,6 @@
 -- Each kind of input as the values that its fields mean. Assumes nothing.
 use lib.IntN.{pos}
-use Rattle.kinds.specs.Units.{shares}
+use Rattle.units.specs.Units.{shares}
 use Rattle.record.specs.declared.row.Row.{Row}
 use Rattle.kinds.specs.declared.inputs.OrderInput.{OrderInput}
 use Rattle.kinds.specs.declared.inputs.ResultInput.{ResultInput}

@@ -4,7 +4,7 @@
 use lib.IntN.{pos}
 use mir.Syntax.{w32, w64}
 use mir.Val.{toZ}
-use Rattle.kinds.specs.Units.{cents, shares}
+use Rattle.units.specs.Units.{cents, shares}
 use Rattle.record.specs.declared.row.Row.{Row}
 use Rattle.kinds.specs.declared.rows.Broker.{Broker}
 use Rattle.kinds.specs.declared.rows.Customer.{Customer}

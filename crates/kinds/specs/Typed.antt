@@ -12,7 +12,7 @@ use mir.Facts.{ofZ-toZ}
 use Rattle.record.specs.Signed.{dn, got32, got64, up}
 use Rattle.kinds.specs.Kinds.{accountOf, brokerOf, cashOf, lotHistoryOf, lotOf, requestOf, securityOf}
 use Rattle.kinds.specs.Kinds.{settlementOf, summaryOf, tradeHistoryOf, tradeOf}
-use Rattle.kinds.specs.Units.{low}
+use Rattle.units.specs.Units.{low}
 use Rattle.kinds.specs.Written.{accountRow, brokerRow, cashRow, lotHistoryRow, lotRow, requestRow, securityRow}
 use Rattle.kinds.specs.Written.{settlementRow, summaryRow, tradeHistoryRow, tradeRow}
 use Rattle.kinds.specs.declared.rows.Broker.{Broker}

@@ -8,7 +8,7 @@ use Rattle.record.specs.Codes.{kindLot, kindSummary, kindLotHistory, kindSettle
 use Rattle.record.specs.Symbol.{noSymbol}
 use Rattle.record.specs.declared.row.Row.{Row}
 use Rattle.record.specs.declared.symbol.Symbol.{Symbol}
-use Rattle.kinds.specs.Units.{low}
+use Rattle.units.specs.Units.{low}
 use Rattle.kinds.specs.declared.rows.Broker.{Broker}
 use Rattle.kinds.specs.declared.rows.Account.{Account}
 use Rattle.kinds.specs.declared.rows.Security.{Security}

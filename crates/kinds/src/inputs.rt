@@ -10,16 +10,15 @@ use crate::limits::R8;
 use crate::limits::R32;
 use crate::limits::Ranges;
 use crate::limits::Rule;
-use crate::units;
-use crate::units::AccountNo;
-use crate::units::Price;
-use crate::units::Shares;
-use crate::units::Time;
-use crate::units::TradeNo;
 use record::bytes;
 use record::codes::Kind;
 use record::row::Grid;
 use record::symbol::Symbol;
+use units::AccountNo;
+use units::Price;
+use units::Shares;
+use units::Time;
+use units::TradeNo;
 
 // What an order is given.
 pub struct OrderInput {

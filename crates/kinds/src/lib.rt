@@ -3,4 +3,3 @@
 pub mod inputs;
 pub mod limits;
 pub mod rows;
-pub mod units;

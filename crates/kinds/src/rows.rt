@@ -16,23 +16,22 @@ use crate::limits::R8;
 use crate::limits::R32;
 use crate::limits::R64;
 use crate::limits::Ranges;
-use crate::units;
-use crate::units::AccountNo;
-use crate::units::BrokerNo;
-use crate::units::Cents;
-use crate::units::CustomerNo;
-use crate::units::PerHundredThousand;
-use crate::units::PerTenThousand;
-use crate::units::Price;
-use crate::units::RateNo;
-use crate::units::Shares;
-use crate::units::Time;
-use crate::units::TradeNo;
 use record::bytes;
 use record::codes::Kind;
 use record::row::Grid;
 use record::row::Row;
 use record::symbol::Symbol;
+use units::AccountNo;
+use units::BrokerNo;
+use units::Cents;
+use units::CustomerNo;
+use units::PerHundredThousand;
+use units::PerTenThousand;
+use units::Price;
+use units::RateNo;
+use units::Shares;
+use units::Time;
+use units::TradeNo;
 
 // The row of a free record.
 pub struct Blank {}

@@ -12,7 +12,7 @@ use Rattle.laws.specs.Search.{every, run}
 use Rattle.laws.specs.Tests.{and-both, and-left, and-right}
 use Rattle.laws.specs.Walk.{left-next, left-none}
 use Rattle.record.specs.declared.row.Row.{Row}
-use Rattle.kinds.specs.declared.units.TradeNo.{TradeNo}
+use Rattle.units.specs.declared.TradeNo.{TradeNo}
 use Rattle.record.specs.Bytes.{Bytes}
 use Rattle.model.specs.Call.{mostInputs}
 use Rattle.model.specs.Lookup.{checks, looked, lookup}

@@ -15,7 +15,6 @@ ghost use Rattle.lookup.specs.Fill.{Answers, allKnown, asked};
 use directory::typed::settlement;
 use directory::typed::trade;
 use kinds::inputs::LookupInput;
-use kinds::units::TradeNo;
 use model::Status;
 use places::place::part;
 use places::place::row_at;
@@ -24,6 +23,7 @@ use record::row::Grid;
 use record::row::places;
 use reply::also;
 use reply::done;
+use units::TradeNo;
 
 // The trade that a record of the input asks for.
 fn asked(input: &[u8], i: usize) -> TradeNo

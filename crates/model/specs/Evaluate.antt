@@ -8,7 +8,7 @@ use Rattle.laws.specs.Sort.{insert, sort}
 use Rattle.laws.specs.Change.{fill, put, puts, written}
 use Rattle.laws.specs.Chunk.{chunk, joined}
 use Rattle.record.specs.Grid.{decode, encode}
-use Rattle.rules.specs.Key.{keyOf, sameKey}
+use Rattle.keys.specs.Key.{keyOf, sameKey}
 use Rattle.record.specs.Spelling.{symbolOk}
 use Rattle.record.specs.Symbol.{sameSymbol}
 use Rattle.record.specs.declared.row.Row.{Row}

@@ -8,11 +8,11 @@ use Rattle.record.specs.Codes.{kindAccount, kindBroker, kindCash, kindCharge, k
 use Rattle.record.specs.Codes.{kindSecurity, kindSettlement, kindSummary, kindTaxRate, kindTrade, kindTradeHistory}
 use Rattle.record.specs.Symbol.{noSymbol}
 use Rattle.record.specs.declared.row.Row.{Row}
-use Rattle.rules.specs.Key as Table
-use Rattle.rules.specs.Key.{among}
+use Rattle.keys.specs.Key as Table
+use Rattle.keys.specs.Key.{among}
 use Rattle.rules.specs.Ranges.{values}
 use Rattle.rules.specs.Rules.{Kind, Name, kinds}
-use Rattle.rules.specs.declared.key.Key.{Key}
+use Rattle.keys.specs.declared.Key.{Key}
 use Rattle.record.specs.declared.symbol.Symbol.{Symbol}
 
 abbrev pub key : ℕ → ℕ → ℕ → ℕ → ℕ → Symbol → Key

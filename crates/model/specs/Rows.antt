@@ -8,10 +8,10 @@ use Rattle.laws.specs.Chunk.{chunk, joined}
 use Rattle.laws.specs.Search.{the, count}
 use Rattle.record.specs.Grid.{decode, encode}
 pub use Rattle.record.specs.Grid.{places, recordSize}
-use Rattle.rules.specs.Key.{keyOf, sameKey}
+use Rattle.keys.specs.Key.{keyOf, sameKey}
 use Rattle.record.specs.Symbol.{noSymbol, sameSymbol}
 use Rattle.record.specs.declared.row.Row.{Row}
-use Rattle.rules.specs.declared.key.Key.{Key}
+use Rattle.keys.specs.declared.Key.{Key}
 
 abbrev pub mostRecords : ℕ
 mostRecords = 4_096

@@ -11,7 +11,7 @@ use Rattle.laws.specs.Tests.{_⇔_}
 use Rattle.laws.specs.Search.{bit, every, count, total, sumZ}
 use Rattle.record.specs.Codes.{completed, kindBand, kindCash, kindCustomer, kindCustomerRate, kindFree, kindLot}
 use Rattle.record.specs.Codes.{kindLotHistory, kindSettlement, kindSummary, kindTrade, kindTradeHistory, pending, tlb}
-use Rattle.rules.specs.Key.{keyOf}
+use Rattle.keys.specs.Key.{keyOf}
 use Rattle.record.specs.Symbol.{sameSymbol}
 use Rattle.record.specs.declared.row.Row.{Row}
 use Rattle.record.specs.declared.symbol.Symbol.{Symbol}

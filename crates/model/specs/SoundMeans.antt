@@ -16,10 +16,10 @@ use Rattle.laws.specs.Tests.{means-le, means-or}
 use Rattle.laws.specs.Search.{bit, count, every, means-every, sumZ}
 use Rattle.record.specs.Codes.{completed, kindBand, kindCash, kindCustomer, kindFree, kindLot, kindLotHistory}
 use Rattle.record.specs.Codes.{kindSettlement, kindSummary, kindTrade, pending, tlb}
-use Rattle.rules.specs.Key.{keyOf}
+use Rattle.keys.specs.Key.{keyOf}
 use Rattle.record.specs.Signed.{eq-parts, le-parts, parts-le}
 use Rattle.record.specs.Symbol.{means-same}
-use Rattle.rules.specs.declared.key.Key.{Key}
+use Rattle.keys.specs.declared.Key.{Key}
 use Rattle.record.specs.declared.row.Row.{Row}
 use Rattle.rules.specs.Meaning.{Fits, means-fits}
 use Rattle.rules.specs.Ranges.{taxPart}

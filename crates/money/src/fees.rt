@@ -4,16 +4,16 @@ ghost use mathlib.Core.Path.{_≡_};
 ghost use Prim.Native.Nat.{_*_, _/_, _<_, _≤_};
 ghost use lib.IntN.{pos};
 ghost use Rattle.record.specs.Signed.{up};
-ghost use Rattle.kinds.specs.Units.{cents};
+ghost use Rattle.units.specs.Units.{cents};
 ghost use Rattle.rules.specs.Ranges.{commissionPart, fee, priceMost, sharesMost, taxPart};
 ghost use Rattle.model.specs.Money.{commissionOf, rounded, taxOf, taxable, untaxed};
 ghost use Rattle.money.specs.Amounts.{UpTo, valueMost};
 use kinds::limits::Ranges;
-use kinds::units::Cents;
-use kinds::units::PerHundredThousand;
-use kinds::units::PerTenThousand;
-use kinds::units::Price;
-use kinds::units::Shares;
+use units::Cents;
+use units::PerHundredThousand;
+use units::PerTenThousand;
+use units::Price;
+use units::Shares;
 
 pub fn value(shares: Shares, price: Price) -> Cents
     requires { ⌜ (up (shares .0) ≤ sharesMost) × (price .0 ≤ priceMost) ⌝ }

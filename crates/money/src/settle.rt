@@ -5,12 +5,12 @@ ghost use Prim.Native.Nat.{_*_, _≤_};
 ghost use lib.Dec.{eqb};
 ghost use lib.IntN.{_+ℤ_, natAbs, pos};
 ghost use Rattle.record.specs.Signed.{up};
-ghost use Rattle.kinds.specs.Units.{cents};
+ghost use Rattle.units.specs.Units.{cents};
 ghost use Rattle.rules.specs.Ranges.{charged, fee, moneyMost};
 ghost use Rattle.model.specs.Money.{settlementOf};
 ghost use Rattle.money.specs.Amounts.{UpTo, valueMost};
 use crate::sides::buys;
-use kinds::units::Cents;
+use units::Cents;
 
 // The tax that is taken: tax status 2 only records it.
 fn withheld(tax_status: u8, tax: Cents) -> Cents

@@ -3,13 +3,13 @@ ghost use mathlib.Core.Path.{_≡_};
 ghost use Prim.Native.Nat.{_+_, _≤_};
 ghost use lib.IntN.{_+ℤ_, natAbs, negℤ};
 ghost use Rattle.record.specs.Signed.{up};
-ghost use Rattle.kinds.specs.Units.{shares, signedMost};
+ghost use Rattle.units.specs.Units.{shares, signedMost};
 ghost use Rattle.rules.specs.Ranges.{sharesMost};
 ghost use Rattle.model.specs.Money.{buys};
 ghost use Rattle.model.specs.Result.{signed};
 ghost use Rattle.money.specs.Amounts.{UpTo};
-use kinds::units::Shares;
 use record::codes::TradeType;
+use units::Shares;
 
 pub fn buys(trade_type: u8) -> bool
     ensures { λ r. ⌜ r ≡ buys «trade_type» ⌝ }

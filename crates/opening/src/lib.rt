@@ -7,11 +7,11 @@ ghost use Rattle.opening.specs.Opening.{Opened, Room, opening};
 use directory::build::build;
 use directory::totals::Totals;
 use kinds::limits::Ranges;
-use kinds::units::TradeNo;
 use model::Status;
 use reply::Ended;
 use sound::whole::sound_by;
 use sound::whole::whole;
+use units::TradeNo;
 
 // No book is left by a check that fails, so its totals are of no use.
 fn refused(status: Status) -> Ended

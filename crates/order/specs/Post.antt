@@ -13,13 +13,13 @@ use borrow.Author.Tests.{le-leb, lt-leb}
 use Rattle.laws.specs.Change.{fill}
 use Rattle.record.specs.Codes.{kindFree, pending, submitted, tms}
 use Rattle.record.specs.declared.row.Row.{Row}
-use Rattle.kinds.specs.Units.{cents, low}
+use Rattle.units.specs.Units.{cents, low}
 use Rattle.kinds.specs.Written.{requestRow, tradeHistoryRow, tradeRow}
 use Rattle.kinds.specs.declared.inputs.OrderInput.{OrderInput}
 use Rattle.model.specs.Flags.{rollBack}
 use Rattle.model.specs.Order.{answerRow}
 use Rattle.model.specs.Rows.{is, nothing, rows, sameRow}
-use Rattle.directory.specs.Added.{Added, Room, room-first, room-next}
+use Rattle.upkeep.specs.Added.{Added, Room, room-first, room-next}
 use Rattle.directory.specs.Directory.{Directory}
 use Rattle.directory.specs.declared.totals.Totals.{Totals}
 use Rattle.estimate.specs.declared.figures.Estimate.{Estimate}

@@ -20,7 +20,7 @@ use Rattle.kinds.specs.declared.inputs.OrderInput.{OrderInput}
 use Rattle.rules.specs.Meaning.{means-charge, means-order-input}
 use Rattle.rules.specs.Ranges.{charged}
 use Rattle.rules.specs.Rules.{as-kind, orderInput}
-use Rattle.rules.specs.declared.key.Key.{Key}
+use Rattle.keys.specs.declared.Key.{Key}
 use Rattle.model.specs.Names.{aCharge, aCustomer, aSecurity, anAccount}
 use Rattle.model.specs.Status.{isDone}
 use Rattle.model.specs.Order.{checks, order, posting, view}
@@ -35,7 +35,7 @@ use Rattle.facts.specs.Found.{found-kind, found-none, sound-s1, the-most}
 use Rattle.facts.specs.Keys.{key-kind}
 use Rattle.facts.specs.Status.{is-done}
 use Rattle.places.specs.Rows.{putAt}
-use Rattle.directory.specs.Added.{Room, room-start}
+use Rattle.upkeep.specs.Added.{Room, room-start}
 use Rattle.directory.specs.Directory.{Directory}
 use Rattle.directory.specs.declared.totals.Totals.{Totals}
 use Rattle.reply.specs.Left.{answerLeft, bookLeft, left-accepted, left-refused}

@@ -2,10 +2,9 @@
 ghost use mathlib.Core.Path.{_≡_};
 ghost use Rattle.model.specs.Flags.{rollBack};
 ghost use Rattle.model.specs.Rows.{rows};
-ghost use Rattle.directory.specs.Added.{Room};
+ghost use Rattle.upkeep.specs.Added.{Room};
 ghost use Rattle.directory.specs.Directory.{Directory};
 ghost use Rattle.order.specs.Post.{addedOf, answerOf, historyOf, requestOf, rowsAfter, statusOf, tradeOf};
-use directory::change::add;
 use directory::totals::Totals;
 use estimate::figures::Estimate;
 use estimate::terms::Terms;
@@ -13,14 +12,15 @@ use kinds::inputs::OrderInput;
 use kinds::rows::Request;
 use kinds::rows::Trade;
 use kinds::rows::TradeHistory;
-use kinds::units::Cents;
-use kinds::units::Price;
 use places::place::nothing;
 use record::codes::Kind;
 use record::codes::TradeStatus;
 use record::codes::TradeType;
 use record::row::Row;
 use record::symbol::Symbol;
+use units::Cents;
+use units::Price;
+use upkeep::add;
 
 // An order at the market's price is submitted; any other waits.
 fn first_status(input: OrderInput) -> u8

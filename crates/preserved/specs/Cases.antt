@@ -6,7 +6,7 @@ use Prim.Native.Nat.{ℕ, _≤_}
 use native.Mathlib.Omega.{arith}
 use Rattle.laws.specs.Keep.{count-has}
 use Rattle.laws.specs.Search.{bit, count}
-use Rattle.rules.specs.Key.{among}
+use Rattle.keys.specs.Key.{among}
 
 pub by-cases : {X : Type 0} (b : Bool) → (b ≡ true → X) → (b ≡ false → X) → X
 by-cases true f g = f refl

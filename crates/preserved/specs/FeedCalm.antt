@@ -16,8 +16,8 @@ use Rattle.laws.specs.Tests.{and-left}
 use Rattle.laws.specs.Total.{total-map}
 use Rattle.laws.specs.Puts.{count-less}
 use Rattle.record.specs.Codes.{kindFree, kindRequest, kindSecurity, kindTrade, kindTradeHistory, pending, submitted}
-use Rattle.rules.specs.Key.{among, keyOf, sameKey}
-use Rattle.rules.specs.declared.key.Key.{Key}
+use Rattle.keys.specs.Key.{among, keyOf, sameKey}
+use Rattle.keys.specs.declared.Key.{Key}
 use Rattle.record.specs.declared.row.Row.{Row}
 use Rattle.rules.specs.Ranges.{volume}
 use Rattle.rules.specs.Rules.{feedInput}

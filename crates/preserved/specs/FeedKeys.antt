@@ -15,9 +15,9 @@ use Rattle.laws.specs.Search.{bit, count}
 use Rattle.laws.specs.Tests.{and-both, and-false, and-left, and-right}
 use Rattle.laws.specs.Puts.{count-less, is-counted, put-total}
 use Rattle.record.specs.Codes.{kindFree, kindRequest, kindTrade, kindTradeHistory, submitted}
-use Rattle.rules.specs.Key.{keyOf}
-use Rattle.rules.specs.KeyLaws.{same-keys}
-use Rattle.rules.specs.declared.key.Key.{Key}
+use Rattle.keys.specs.Key.{keyOf}
+use Rattle.keys.specs.KeyLaws.{same-keys}
+use Rattle.keys.specs.declared.Key.{Key}
 use Rattle.record.specs.declared.row.Row.{Row}
 use Rattle.model.specs.Feed.{swept, traded, sent}
 use Rattle.model.specs.Names.{aHistory, aTrade}

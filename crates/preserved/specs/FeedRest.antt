@@ -13,8 +13,8 @@ use Rattle.laws.specs.Keep.{count-has}
 use Rattle.laws.specs.Search.{bit, count, every}
 use Rattle.record.specs.Codes.{completed, kindBand, kindCash, kindCustomer, kindCustomerRate, kindFree, kindLot}
 use Rattle.record.specs.Codes.{kindLotHistory, kindSecurity, kindSettlement, kindSummary, kindTrade, pending}
-use Rattle.rules.specs.Key.{among}
-use Rattle.rules.specs.declared.key.Key.{Key}
+use Rattle.keys.specs.Key.{among}
+use Rattle.keys.specs.declared.Key.{Key}
 use Rattle.record.specs.declared.row.Row.{Row}
 use Rattle.record.specs.declared.symbol.Symbol.{Symbol}
 use Rattle.model.specs.Feed.{swept, traded, sent}

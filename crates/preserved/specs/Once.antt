@@ -13,7 +13,7 @@ use Rattle.laws.specs.Puts.{count-less}
 use Rattle.laws.specs.Search.{count, the}
 use Rattle.laws.specs.Tests.{Means, means-and, means-eq, means-le}
 use Rattle.record.specs.Codes.{kindBand, kindFree}
-use Rattle.rules.specs.declared.key.Key.{Key}
+use Rattle.keys.specs.declared.Key.{Key}
 use Rattle.record.specs.declared.row.Row.{Row}
 use Rattle.model.specs.Band.{bandFor}
 use Rattle.model.specs.Rows.{hasKey, nothing}

@@ -17,9 +17,9 @@ use Rattle.laws.specs.Tests.{or-cases}
 use Rattle.laws.specs.Puts.{count-no}
 use Rattle.record.specs.Codes.{kindCash, kindLot, kindLotHistory, kindRequest, kindSettlement, kindTrade}
 use Rattle.record.specs.Codes.{kindTradeHistory, tms}
-use Rattle.rules.specs.Key.{among, byId, keyOf}
-use Rattle.rules.specs.KeyLaws.{same-keys}
-use Rattle.rules.specs.declared.key.Key.{Key}
+use Rattle.keys.specs.Key.{among, byId, keyOf}
+use Rattle.keys.specs.KeyLaws.{same-keys}
+use Rattle.keys.specs.declared.Key.{Key}
 use Rattle.record.specs.declared.row.Row.{Row}
 use Rattle.rules.specs.Ranges.{charged, fee, priceMost, tradeNumber}
 use Rattle.rules.specs.Rules.{orderInput}

@@ -12,9 +12,9 @@ use Rattle.laws.specs.All.{All, all-more, all-one}
 use Rattle.laws.specs.Keep.{count-has}
 use Rattle.laws.specs.Search.{bit, count, the}
 use Rattle.record.specs.Codes.{kindBand, kindCustomer, kindFree, kindRequest, kindTrade, kindTradeHistory, tms}
-use Rattle.rules.specs.Key.{among, byId, keyOf}
-use Rattle.rules.specs.KeyLaws.{key-itself, same-keys}
-use Rattle.rules.specs.declared.key.Key.{Key}
+use Rattle.keys.specs.Key.{among, byId, keyOf}
+use Rattle.keys.specs.KeyLaws.{key-itself, same-keys}
+use Rattle.keys.specs.declared.Key.{Key}
 use Rattle.record.specs.declared.row.Row.{Row}
 use Rattle.model.specs.Names.{aBroker, aSecurity, aTaxRate, aTrade, anAccount, named}
 use Rattle.model.specs.Rows.{found, hasKey, is, nothing, there}

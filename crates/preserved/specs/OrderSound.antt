@@ -9,7 +9,7 @@ use borrow.Author.Tests.{leb-false, leb-true, not-true}
 use Rattle.laws.specs.Change.{fill, puts, written}
 use Rattle.laws.specs.Search.{count}
 use Rattle.record.specs.Codes.{kindCharge, kindFree, kindSecurity, tms}
-use Rattle.rules.specs.declared.key.Key.{Key}
+use Rattle.keys.specs.declared.Key.{Key}
 use Rattle.record.specs.declared.row.Row.{Row}
 use Rattle.rules.specs.Meaning.{means-charge, means-fits, means-order-input, means-security}
 use Rattle.rules.specs.Ranges.{charged, fee, priceMost, tradeNumber}

@@ -12,9 +12,9 @@ use Rattle.laws.specs.Keep.{count-has}
 use Rattle.laws.specs.Search.{count}
 use Rattle.laws.specs.Puts.{count-no}
 use Rattle.record.specs.Codes.{kindRequest, kindTrade, kindTradeHistory, pending, submitted, tlb, tms}
-use Rattle.rules.specs.Key.{among, byId, keyOf}
+use Rattle.keys.specs.Key.{among, byId, keyOf}
 use Rattle.record.specs.Symbol.{symbol-same}
-use Rattle.rules.specs.declared.key.Key.{Key}
+use Rattle.keys.specs.declared.Key.{Key}
 use Rattle.record.specs.declared.row.Row.{Row}
 use Rattle.model.specs.Names.{aHistory, aRequest, anAccount}
 use Rattle.model.specs.Order.{firstStatus}

@@ -15,8 +15,8 @@ use Rattle.laws.specs.Puts.{Inside, More, Quiet, each-row, has-come, mem-map, n
 use Rattle.laws.specs.Puts.{same-sums, the-puts}
 use Rattle.record.specs.Codes.{kindAccount, kindBroker, kindCash, kindFree, kindSettlement, kindTrade}
 use Rattle.record.specs.Codes.{kindTradeHistory}
-use Rattle.rules.specs.Key.{among, keyOf, sameKey}
-use Rattle.rules.specs.declared.key.Key.{Key}
+use Rattle.keys.specs.Key.{among, keyOf, sameKey}
+use Rattle.keys.specs.declared.Key.{Key}
 use Rattle.record.specs.declared.row.Row.{Row}
 use Rattle.model.specs.Lots.{Closing}
 use Rattle.model.specs.Rows.{found, hasKey, is, nothing, sameRow}

@@ -15,8 +15,8 @@ use Rattle.laws.specs.Search.{count}
 use Rattle.laws.specs.Tests.{one-truth}
 use Rattle.laws.specs.Puts.{Inside, count-length, count-less, count-no, is-counted, member, olds}
 use Rattle.record.specs.Codes.{kindFree, submitted}
-use Rattle.rules.specs.Key.{keyOf}
-use Rattle.rules.specs.KeyLaws.{key-itself}
+use Rattle.keys.specs.Key.{keyOf}
+use Rattle.keys.specs.KeyLaws.{key-itself}
 use Rattle.record.specs.declared.row.Row.{Row}
 use Rattle.rules.specs.Meaning.{Fits}
 use Rattle.model.specs.Status.{isDone}

@@ -15,7 +15,7 @@ use Rattle.laws.specs.Tests.{and-left, and-right}
 use Rattle.record.specs.Codes.{completed, kindAccount, kindBroker, kindCash, kindFree, kindLot, kindLotHistory}
 use Rattle.record.specs.Codes.{kindSettlement, kindSummary, kindTrade, kindTradeHistory}
 use Rattle.record.specs.declared.row.Row.{Row}
-use Rattle.rules.specs.Key.{among}
+use Rattle.keys.specs.Key.{among}
 use Rattle.model.specs.Flags.{cash}
 use Rattle.model.specs.Lots.{Closing}
 use Rattle.model.specs.Result.{Sums, accountChanges, added, brokerWrite, cashRow, closedLots, closingRows, finalRows}

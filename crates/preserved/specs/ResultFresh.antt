@@ -14,9 +14,9 @@ use Rattle.laws.specs.Tests.{and-both, and-left, and-right}
 use Rattle.laws.specs.Puts.{count-less, count-no, the-one}
 use Rattle.record.specs.Codes.{completed, kindCash, kindFree, kindLotHistory, kindSummary, kindTradeHistory}
 use Rattle.record.specs.Codes.{submitted}
-use Rattle.rules.specs.Key.{keyOf}
-use Rattle.rules.specs.KeyLaws.{keys-tell, same-keys}
-use Rattle.rules.specs.declared.key.Key.{Key}
+use Rattle.keys.specs.Key.{keyOf}
+use Rattle.keys.specs.KeyLaws.{keys-tell, same-keys}
+use Rattle.keys.specs.declared.Key.{Key}
 use Rattle.record.specs.declared.row.Row.{Row}
 use Rattle.model.specs.Lots.{Closing}
 use Rattle.model.specs.Names.{aCash, aHistory, aSettlement, aSummary, aTrade}

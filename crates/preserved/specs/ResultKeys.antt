@@ -14,9 +14,9 @@ use Rattle.laws.specs.Search.{bit, count, total}
 use Rattle.laws.specs.Puts.{count-less, count-no, puts-count}
 use Rattle.record.specs.Codes.{kindCash, kindFree, kindLot, kindLotHistory, kindSettlement, kindSummary}
 use Rattle.record.specs.Codes.{kindTradeHistory}
-use Rattle.rules.specs.Key.{keyOf}
-use Rattle.rules.specs.KeyLaws.{same-keys}
-use Rattle.rules.specs.declared.key.Key.{Key}
+use Rattle.keys.specs.Key.{keyOf}
+use Rattle.keys.specs.KeyLaws.{same-keys}
+use Rattle.keys.specs.declared.Key.{Key}
 use Rattle.record.specs.declared.row.Row.{Row}
 use Rattle.model.specs.Flags.{cash}
 use Rattle.model.specs.Lots.{Closing}

@@ -12,9 +12,9 @@ use Rattle.laws.specs.Keep.{count-has}
 use Rattle.laws.specs.Search.{count, every, means-every}
 use Rattle.laws.specs.Tests.{and-left, and-right}
 use Rattle.record.specs.Codes.{kindBand, kindBroker, kindCustomer, kindCustomerRate, kindLot, kindSummary, kindTrade}
-use Rattle.rules.specs.declared.key.Key.{Key}
+use Rattle.keys.specs.declared.Key.{Key}
 use Rattle.record.specs.declared.row.Row.{Row}
-use Rattle.rules.specs.Key.{among}
+use Rattle.keys.specs.Key.{among}
 use Rattle.model.specs.Lots.{Closing}
 use Rattle.model.specs.Names.{aSecurity, aTaxRate, aTrade, anAccount, named, names}
 use Rattle.model.specs.Rows.{hasKey, nothing, sameRow}

@@ -13,9 +13,9 @@ use Rattle.laws.specs.Keep.{count-has}
 use Rattle.laws.specs.Search.{bit, count}
 use Rattle.laws.specs.Puts.{Fewer, Quiet}
 use Rattle.record.specs.Codes.{completed, kindCash, kindSettlement, kindTrade}
-use Rattle.rules.specs.declared.key.Key.{Key}
+use Rattle.keys.specs.declared.Key.{Key}
 use Rattle.record.specs.declared.row.Row.{Row}
-use Rattle.rules.specs.Key.{among}
+use Rattle.keys.specs.Key.{among}
 use Rattle.model.specs.Flags.{cash}
 use Rattle.model.specs.Lots.{Closing}
 use Rattle.model.specs.Names.{aCash, aSettlement, aSummary, aTrade, byId}

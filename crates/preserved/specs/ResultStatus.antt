@@ -15,8 +15,8 @@ use Rattle.laws.specs.Puts.{Fewer, Quiet, count-less}
 use Rattle.record.specs.Codes.{completed, kindAccount, kindBroker, kindCash, kindFree, kindLot, kindLotHistory}
 use Rattle.record.specs.Codes.{kindRequest, kindSettlement, kindSummary, kindTrade, kindTradeHistory, pending}
 use Rattle.record.specs.Codes.{submitted, tlb}
-use Rattle.rules.specs.Key.{keyOf}
-use Rattle.rules.specs.declared.key.Key.{Key}
+use Rattle.keys.specs.Key.{keyOf}
+use Rattle.keys.specs.declared.Key.{Key}
 use Rattle.record.specs.declared.row.Row.{Row}
 use Rattle.model.specs.Lots.{Closing}
 use Rattle.model.specs.Names.{aHistory, aRequest, aSummary, aTrade, anAccount}

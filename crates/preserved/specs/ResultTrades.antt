@@ -13,7 +13,7 @@ use Rattle.laws.specs.Search.{count}
 use Rattle.laws.specs.Tests.{and-right}
 use Rattle.laws.specs.Puts.{Quiet}
 use Rattle.record.specs.Codes.{completed, kindAccount, kindBroker, kindFree, kindTrade, kindTradeHistory}
-use Rattle.rules.specs.Key.{among}
+use Rattle.keys.specs.Key.{among}
 use Rattle.record.specs.declared.row.Row.{Row}
 use Rattle.model.specs.Flags.{cash}
 use Rattle.model.specs.Lots.{Closing}

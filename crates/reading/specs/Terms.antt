@@ -18,12 +18,12 @@ use Rattle.kinds.specs.declared.rows.Account.{Account}
 use Rattle.kinds.specs.declared.rows.Broker.{Broker}
 use Rattle.kinds.specs.declared.rows.Summary.{Summary}
 use Rattle.kinds.specs.declared.rows.Trade.{Trade}
-use Rattle.kinds.specs.declared.units.PerHundredThousand.{PerHundredThousand}
-use Rattle.kinds.specs.declared.units.PerTenThousand.{PerTenThousand}
+use Rattle.units.specs.declared.PerHundredThousand.{PerHundredThousand}
+use Rattle.units.specs.declared.PerTenThousand.{PerTenThousand}
 use Rattle.rules.specs.Meaning.{means-result-input}
 use Rattle.rules.specs.Rules.{resultInput}
 use Rattle.rules.specs.Typed.{written}
-use Rattle.rules.specs.declared.key.Key.{Key}
+use Rattle.keys.specs.declared.Key.{Key}
 use Rattle.model.specs.Band.{bandRate}
 use Rattle.model.specs.Names.{aBroker, aCustomer, aSecurity, aSummary, aTrade, anAccount}
 use Rattle.model.specs.Result.{view}

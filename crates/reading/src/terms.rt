@@ -22,12 +22,12 @@ use kinds::rows::Customer;
 use kinds::rows::Security;
 use kinds::rows::Summary;
 use kinds::rows::Trade;
-use kinds::units::CustomerNo;
-use kinds::units::PerHundredThousand;
-use kinds::units::PerTenThousand;
-use kinds::units::TradeNo;
 use places::place::record_at;
 use record::symbol::Symbol;
+use units::CustomerNo;
+use units::PerHundredThousand;
+use units::PerTenThousand;
+use units::TradeNo;
 
 // Where the rows of a result stand, but for its lots; the number of places where there is none.
 pub struct Places {

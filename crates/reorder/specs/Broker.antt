@@ -11,7 +11,7 @@ use borrow.Author.Tests.{eqb-true}
 use Rattle.laws.specs.Search.{total}
 use Rattle.laws.specs.Tests.{and-right}
 use Rattle.record.specs.Codes.{kindBroker}
-use Rattle.rules.specs.Key.{keyOf, sameKey}
+use Rattle.keys.specs.Key.{keyOf, sameKey}
 use Rattle.record.specs.Symbol.{sameSymbol}
 use Rattle.record.specs.declared.row.Row.{Row}
 use Rattle.model.specs.Status.{isDone}

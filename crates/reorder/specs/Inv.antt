@@ -12,7 +12,7 @@ use Rattle.laws.specs.Search.{bit, count, total}
 use Rattle.laws.specs.Puts.{news, olds, same-sums}
 use Rattle.laws.specs.Total.{total-append, total-map, total-single, total-zero}
 use Rattle.record.specs.Codes.{kindBroker, kindFree, kindTrade}
-use Rattle.rules.specs.Key.{keyOf, sameKey}
+use Rattle.keys.specs.Key.{keyOf, sameKey}
 use Rattle.record.specs.Symbol.{sameSymbol}
 use Rattle.record.specs.declared.row.Row.{Row}
 use Rattle.rules.specs.Meaning.{means-fits, means-trade}

@@ -16,7 +16,7 @@ use Rattle.laws.specs.Search.{count, place, seek, the, total}
 use Rattle.laws.specs.Tests.{and-left, and-right}
 use Rattle.record.specs.Codes.{kindTrade}
 use Rattle.record.specs.Grid.{decode}
-use Rattle.rules.specs.declared.key.Key.{Key}
+use Rattle.keys.specs.declared.Key.{Key}
 use Rattle.record.specs.declared.row.Row.{Row}
 use Rattle.rules.specs.Meaning.{means-fits, means-trade}
 use Rattle.rules.specs.Ranges.{limited}

@@ -15,7 +15,7 @@ use Rattle.laws.specs.Place.{the-passes}
 use Rattle.laws.specs.Search.{bit, count, keep, the, total}
 use Rattle.laws.specs.Total.{total-on}
 use Rattle.record.specs.Codes.{kindBroker, kindFree}
-use Rattle.rules.specs.Key.{among}
+use Rattle.keys.specs.Key.{among}
 use Rattle.record.specs.Symbol.{numbered, symbolNumber}
 use Rattle.record.specs.declared.row.Row.{Row}
 use Rattle.model.specs.Names.{aBroker, aTrade}

@@ -10,9 +10,9 @@ use Rattle.laws.specs.Keep.{count-one}
 use Rattle.laws.specs.Tests.{_⇔_, and-both, and-left, and-right}
 use Rattle.record.specs.Codes.{kindAccount, kindBand, kindCustomerRate, kindFree, kindLot, kindLotHistory}
 use Rattle.record.specs.Codes.{kindSummary, kindTrade}
-use Rattle.rules.specs.Key.{among}
+use Rattle.keys.specs.Key.{among}
 use Rattle.record.specs.Symbol.{sameSymbol}
-use Rattle.rules.specs.declared.key.Key.{Key}
+use Rattle.keys.specs.declared.Key.{Key}
 use Rattle.record.specs.declared.row.Row.{Row}
 use Rattle.record.specs.declared.symbol.Symbol.{Symbol}
 use Rattle.model.specs.Band.{bandFor, bandRate}

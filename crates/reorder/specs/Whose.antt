@@ -10,7 +10,7 @@ use borrow.Author.Tests.{eq-eqb, ne-eqb}
 use Rattle.laws.specs.Tests.{and-false, or-true}
 use Rattle.record.specs.Codes.{kindAccount, kindBroker, kindCash, kindFree, kindLot, kindLotHistory, kindSettlement}
 use Rattle.record.specs.Codes.{kindSummary, kindTrade, kindTradeHistory}
-use Rattle.rules.specs.Key.{among}
+use Rattle.keys.specs.Key.{among}
 use Rattle.record.specs.declared.row.Row.{Row}
 use Rattle.model.specs.Rows.{is}
 

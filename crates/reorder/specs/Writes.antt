@@ -12,7 +12,7 @@ use mir.Val.{toZ}
 use Rattle.laws.specs.All.{All, all-append, all-map}
 use Rattle.record.specs.Codes.{kindAccount, kindBroker, kindCash, kindFree, kindLot, kindLotHistory, kindSettlement}
 use Rattle.record.specs.Codes.{kindSummary, kindTrade, kindTradeHistory}
-use Rattle.rules.specs.Key.{among, keyOf, sameKey}
+use Rattle.keys.specs.Key.{among, keyOf, sameKey}
 use Rattle.record.specs.Symbol.{sameSymbol}
 use Rattle.record.specs.declared.row.Row.{Row}
 use Rattle.model.specs.Lots.{Closing, closings}

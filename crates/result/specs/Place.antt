@@ -13,7 +13,7 @@ use Rattle.laws.specs.Place.{seek-suc, the-passes, the-place}
 use Rattle.laws.specs.Search.{count, place, seek, the, total}
 use Rattle.record.specs.Codes.{kindFree}
 use Rattle.record.specs.declared.row.Row.{Row}
-use Rattle.rules.specs.Key.{keyOf}
+use Rattle.keys.specs.Key.{keyOf}
 use Rattle.model.specs.Rows.{hasKey, is, nothing}
 use Rattle.model.specs.Sound.{sound}
 use Rattle.facts.specs.Keys.{own-key}

@@ -18,12 +18,12 @@ use Rattle.record.specs.declared.row.Row.{Row}
 use Rattle.kinds.specs.Inputs.{resultInputOf}
 use Rattle.kinds.specs.Kinds.{accountOf, brokerOf, lotOf, summaryOf, tradeOf}
 use Rattle.kinds.specs.Written.{accountRow, brokerRow, lotRow, summaryRow, tradeRow}
-use Rattle.rules.specs.KeyLaws.{same-keys}
-use Rattle.rules.specs.Key.{keyOf}
+use Rattle.keys.specs.KeyLaws.{same-keys}
+use Rattle.keys.specs.Key.{keyOf}
 use Rattle.rules.specs.Meaning.{means-account, means-broker, means-fits, means-lot, means-summary, means-trade}
 use Rattle.rules.specs.Rules.{as-kind, fits}
 use Rattle.rules.specs.Typed.{account-written, broker-written, lot-written, summary-written, trade-written}
-use Rattle.rules.specs.declared.key.Key.{Key}
+use Rattle.keys.specs.declared.Key.{Key}
 use Rattle.model.specs.Flags.{cash}
 use Rattle.model.specs.Lots.{Closing, closings}
 use Rattle.model.specs.Names.{aBroker, aSummary, aTrade, anAccount}

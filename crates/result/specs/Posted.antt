@@ -12,7 +12,7 @@ use Rattle.laws.specs.Search.{count, the}
 use Rattle.laws.specs.All.{All}
 use Rattle.laws.specs.Place.{the-passes}
 use Rattle.record.specs.Codes.{kindFree, submitted}
-use Rattle.rules.specs.Key.{keyOf}
+use Rattle.keys.specs.Key.{keyOf}
 use Rattle.record.specs.declared.row.Row.{Row}
 use Rattle.model.specs.Lots.{Closing}
 use Rattle.model.specs.Names.{aBroker}

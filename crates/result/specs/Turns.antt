@@ -15,7 +15,7 @@ use Rattle.laws.specs.Puts.{count-less}
 use Rattle.laws.specs.Search.{count, the}
 use Rattle.record.specs.Codes.{kindAccount, kindBroker, kindFree, kindLot, kindSummary, kindTrade}
 use Rattle.record.specs.declared.row.Row.{Row}
-use Rattle.rules.specs.Key.{keyOf}
+use Rattle.keys.specs.Key.{keyOf}
 use Rattle.model.specs.Lots.{Closing}
 use Rattle.model.specs.Result.{Sums, brokerWrite, holding, leftOf}
 use Rattle.model.specs.Result.{summedShares, tradeWrite}

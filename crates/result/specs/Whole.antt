@@ -33,7 +33,7 @@ use Rattle.facts.specs.Rows.{length-rows}
 use Rattle.money.specs.Amounts.{UpTo, up-to, valueMost}
 use Rattle.walk.specs.Walk.{Within, begun, within-most}
 use Rattle.walk.specs.declared.Walk.{Walk}
-use Rattle.directory.specs.Added.{Added, Room, added-keeps, added-then, room-first, room-next, room-start}
+use Rattle.upkeep.specs.Added.{Added, Room, added-keeps, added-then, room-first, room-next, room-start}
 use Rattle.directory.specs.Directory.{Directory}
 use Rattle.directory.specs.declared.totals.Totals.{Totals}
 use Rattle.reading.specs.declared.terms.Terms.{Terms}

@@ -2,8 +2,5 @@ pub mod Ranges
 pub mod Signed
 pub mod Rules
 pub mod Beyond
-pub mod Key
-pub mod KeyLaws
-pub mod Marks
 pub mod Meaning
 pub mod Typed

@@ -15,7 +15,7 @@ use Rattle.record.specs.declared.symbol.Symbol.{Symbol}
 use Rattle.kinds.specs.Kinds.{accountOf, brokerOf, cashOf, lotHistoryOf, lotOf, requestOf, securityOf, settlementOf}
 use Rattle.kinds.specs.Kinds.{summaryOf, tradeHistoryOf, tradeOf}
 use Rattle.kinds.specs.Typed.{back64, low-back, low-nat}
-use Rattle.kinds.specs.Units.{low}
+use Rattle.units.specs.Units.{low}
 use Rattle.kinds.specs.Written.{accountRow, brokerRow, cashRow, lotHistoryRow, lotRow, requestRow, securityRow}
 use Rattle.kinds.specs.Written.{settlementRow, summaryRow, tradeHistoryRow, tradeRow}
 use Rattle.rules.specs.Meaning.{Account, Broker, Cash, Lot, LotHistory, Request, Security, Settlement, Summary}

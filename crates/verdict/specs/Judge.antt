@@ -19,8 +19,8 @@ use Rattle.record.specs.declared.row.Row.{Row}
 use Rattle.kinds.specs.Inputs.{resultInputOf}
 use Rattle.kinds.specs.Kinds.{accountOf, brokerOf, tradeOf}
 use Rattle.kinds.specs.declared.rows.Broker.{Broker}
-use Rattle.kinds.specs.declared.units.Cents.{Cents}
-use Rattle.kinds.specs.declared.units.Shares.{Shares}
+use Rattle.units.specs.declared.Cents.{Cents}
+use Rattle.units.specs.declared.Shares.{Shares}
 use Rattle.rules.specs.Meaning.{means-broker}
 use Rattle.rules.specs.Ranges.{brokerTrades, commissionTotal, fee, moneyMost}
 use Rattle.rules.specs.Rules.{as-kind}

@@ -12,14 +12,14 @@ use figures::Figures;
 use figures::is_cash;
 use kinds::limits::Ranges;
 use kinds::rows::Broker;
-use kinds::units::Cents;
-use kinds::units::Shares;
 use model::Status;
 use reading::terms::Terms;
 use record::bytes::bits64;
 use record::codes::TradeStatus;
 use reply::also;
 use rules::limited::near64;
+use units::Cents;
+use units::Shares;
 
 // The most trades and the highest commission total of a broker.
 struct Most {}

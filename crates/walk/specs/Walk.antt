@@ -14,11 +14,11 @@ use Rattle.laws.specs.Search.{run}
 use Rattle.record.specs.Signed.{dn, eq-parts, parts-add, up}
 use Rattle.record.specs.declared.row.Row.{Row}
 use Rattle.kinds.specs.Kinds.{lotOf}
-use Rattle.kinds.specs.Sizes.{abs-parts, dn-neg, up-neg}
-use Rattle.kinds.specs.Units.{cents, shares}
+use Rattle.units.specs.Sizes.{abs-parts, dn-neg, up-neg}
+use Rattle.units.specs.Units.{cents, shares}
 use Rattle.kinds.specs.declared.rows.Lot.{Lot}
-use Rattle.kinds.specs.declared.units.Price.{Price}
-use Rattle.kinds.specs.declared.units.Shares.{Shares}
+use Rattle.units.specs.declared.Price.{Price}
+use Rattle.units.specs.declared.Shares.{Shares}
 use Rattle.rules.specs.Ranges.{priceMost, sharesMost}
 use Rattle.model.specs.Lots.{closings}
 use Rattle.model.specs.Lots

@@ -7,17 +7,17 @@ ghost use Prim.Native.Nat.{_+_, _*_, _<_, _≤_};
 ghost use lib.Dec.{eqb};
 ghost use lib.IntN.{natAbs, pos};
 ghost use Rattle.record.specs.Signed.{up};
-ghost use Rattle.kinds.specs.Units.{cents, shares};
+ghost use Rattle.units.specs.Units.{cents, shares};
 ghost use Rattle.rules.specs.Ranges.{priceMost, sharesMost};
 ghost use Rattle.model.specs.Rows.{mostRecords};
 ghost use Rattle.money.specs.Amounts.{UpTo, valueMost};
 ghost use Rattle.walk.specs.Walk.{Within, begun, restOf, stepped, takenOf};
 use kinds::rows::Lot;
-use kinds::units::Cents;
-use kinds::units::Price;
-use kinds::units::Shares;
 use money::fees::value;
 use money::sides::buys;
+use units::Cents;
+use units::Price;
+use units::Shares;
 
 fn either(first: bool, a: Price, b: Price) -> Price
     ensures { λ r. ⌜ r .0 ≡ cond first (a .0) (b .0) ⌝ }

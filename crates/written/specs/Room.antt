@@ -8,7 +8,7 @@ use native.Mathlib.Omega.{arith}
 use Rattle.record.specs.Codes.{kindFree}
 use Rattle.record.specs.declared.row.Row.{Row}
 use Rattle.model.specs.Rows.{is}
-use Rattle.directory.specs.Added.{Added, Room, room-first, room-next}
+use Rattle.upkeep.specs.Added.{Added, Room, room-first, room-next}
 use Rattle.directory.specs.Directory.{Directory}
 use Rattle.directory.specs.declared.totals.Totals.{Totals}
 

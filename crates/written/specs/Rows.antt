@@ -6,7 +6,7 @@ use native.Mathlib.Omega.{arith}
 use lib.IntN.{ℤ, pos, negsuc, natAbs, _+ℤ_}
 use borrow.Author.Tests.{eqb-true, eqb-false}
 use Rattle.record.specs.Signed.{up}
-use Rattle.kinds.specs.Units.{low}
+use Rattle.units.specs.Units.{low}
 use Rattle.rules.specs.Ranges.{sharesMost, time}
 use Rattle.model.specs.Edit.{bits32, bits64}
 use Rattle.model.specs.Flags.{cash}

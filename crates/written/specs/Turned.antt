@@ -22,7 +22,7 @@ use Rattle.places.specs.Rows.{putAt, rowAt}
 use Rattle.chains.specs.Group.{groupOf}
 use Rattle.directory.specs.Directory.{Directory}
 use Rattle.directory.specs.declared.totals.Totals.{Totals}
-use Rattle.directory.specs.Added.{Added, added-keeps}
+use Rattle.upkeep.specs.Added.{Added, added-keeps}
 
 -- the row at a place stays in its group, or goes and is no trade
 pub record Turn (rs : List Row) (w : ℕ × Row) : Type 0 where

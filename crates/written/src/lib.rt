@@ -23,16 +23,16 @@ use kinds::rows::Settlement;
 use kinds::rows::Summary;
 use kinds::rows::Trade;
 use kinds::rows::TradeHistory;
-use kinds::units::Cents;
-use kinds::units::Price;
-use kinds::units::Shares;
-use kinds::units::Time;
-use kinds::units::TradeNo;
 use places::place::nothing;
 use record::codes::Kind;
 use record::codes::TradeStatus;
 use record::row::Row;
 use record::symbol::Symbol;
+use units::Cents;
+use units::Price;
+use units::Shares;
+use units::Time;
+use units::TradeNo;
 
 pub fn lot_history(lot: TradeNo, by: TradeNo, before: Shares, after: Shares) -> Row
     requires { ⌜ (natAbs (before .0) ≤ sharesMost) × (natAbs (after .0) ≤ sharesMost) ⌝ }

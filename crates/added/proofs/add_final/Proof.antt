@@ -1,7 +1,7 @@
 -- Each row is put into the lowest place that is free; cash comes last, for a cash trade. Assumes nothing.
 use mathlib.Core.Path.{refl}
 use mathlib.Core.List.{[], _∷_}
-use Rattle.directory.specs.Added.{added-one, added-then}
+use Rattle.upkeep.specs.Added.{added-one, added-then}
 use Rattle.written.specs.Room.{add-asks, add-first, add-next}
 use Rattle.added.specs.Add.{final-cash, final-plain}
 use borrow.Author.Needs.{needs}

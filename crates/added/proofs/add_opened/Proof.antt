@@ -1,7 +1,7 @@
 -- Where no shares are left over nothing is added; else the history and then the lot. Assumes nothing.
 use mathlib.Core.Path.{refl, sym, _∙_}
 use mathlib.Core.List.{[], _∷_}
-use Rattle.directory.specs.Added.{added-none, added-one, added-then}
+use Rattle.upkeep.specs.Added.{added-none, added-one, added-then}
 use Rattle.written.specs.Room.{add-asks, add-first, add-next}
 use Rattle.added.specs.Add.{opening-none, opening-some}
 use borrow.Author.Needs.{needs}

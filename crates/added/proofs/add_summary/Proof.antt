@@ -1,6 +1,6 @@
 -- A summary that is there stays; else a new one goes into the lowest place that is free. Assumes nothing.
 use mathlib.Core.Path.{refl}
-use Rattle.directory.specs.Added.{added-none, added-one}
+use Rattle.upkeep.specs.Added.{added-none, added-one}
 use Rattle.written.specs.Room.{add-asks}
 use Rattle.added.specs.Add.{holding-none, holding-some}
 use borrow.Author.Needs.{needs}

@@ -1,6 +1,6 @@
 -- One history, of what is left on the other side of zero. Assumes nothing.
 use mathlib.Core.Path.{refl, _∙_}
-use Rattle.directory.specs.Added.{added-one}
+use Rattle.upkeep.specs.Added.{added-one}
 use Rattle.written.specs.Room.{add-asks}
 use borrow.Author.Needs.{needs}
 use Rattle.closed.proofs.add_closing.Statement.{statement}

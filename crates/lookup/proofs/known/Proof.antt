@@ -1,6 +1,6 @@
 -- The trade is there where its place is not the end. Assumes nothing.
 use mathlib.Core.Path.{ap, _∙_}
-use Rattle.kinds.specs.declared.units.TradeNo.{TradeNo}
+use Rattle.units.specs.declared.TradeNo.{TradeNo}
 use Rattle.model.specs.Names.{aTrade}
 use Rattle.model.specs.Rows.{rows, there}
 use Rattle.directory.specs.Found.{key-there}

@@ -4,7 +4,7 @@ use mathlib.Core.Path.{ap}
 use Prim.Native.Nat.{_*_}
 use lib.IntN.{ℤ, pos, _+ℤ_}
 use Rattle.record.specs.Signed.{up}
-use Rattle.kinds.specs.Units.{cents}
+use Rattle.units.specs.Units.{cents}
 use Rattle.money.specs.Amounts.{above-is}
 use Rattle.walk.proofs.with.Statement.{statement}
 use Rattle.walk.proofs.with.Tie as tie

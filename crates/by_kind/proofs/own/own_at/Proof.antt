@@ -1,7 +1,7 @@
 -- S2, and the rest. Assumes nothing.
 use mathlib.Core.Path.{ap, _∙_}
 use Prim.Native.Nat.{ℕ}
-use Rattle.rules.specs.Key.{among}
+use Rattle.keys.specs.Key.{among}
 use Rattle.clauses.specs.Hung.{hungKinds}
 use Rattle.by_kind.specs.Told.{told-last}
 use Rattle.by_kind.proofs.own.own_at.Statement.{statement}

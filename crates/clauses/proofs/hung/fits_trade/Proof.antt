@@ -1,7 +1,7 @@
 -- What each kind asks of its trade. Assumes nothing.
 use mathlib.Core.Path.{sym, ap, _∙_}
 use Prim.Native.Nat.{ℕ}
-use Rattle.rules.specs.Key.{among}
+use Rattle.keys.specs.Key.{among}
 use Rattle.clauses.specs.Hung.{as-request, cash-fits, history-fits, hungKinds, lot-fits, request-kind}
 use Rattle.clauses.specs.Hung.{settlement-fits}
 use borrow.Author.Needs.{needs}

@@ -2,7 +2,7 @@
 use mathlib.Core.Path.{sym, ap, _∙_}
 use Prim.Native.Nat.{ℕ}
 use Rattle.record.specs.Codes.{kindCash, kindLot, kindRequest, kindSettlement, kindTradeHistory}
-use Rattle.rules.specs.Key.{among}
+use Rattle.keys.specs.Key.{among}
 use Rattle.clauses.specs.Hung.{hungKinds, offset-as, request-kind}
 use borrow.Author.Needs.{needs}
 use Rattle.clauses.proofs.hung.offset.Statement.{statement}

@@ -4,7 +4,7 @@ use lib.IntN.{ℤ}
 use native.Mathlib.Omega.{arith}
 use borrow.Author.Needs.{needs}
 use Rattle.record.specs.Signed.{up}
-use Rattle.kinds.specs.Units.{shares}
+use Rattle.units.specs.Units.{shares}
 use Rattle.money.specs.Amounts.{above-is}
 use Rattle.walk.specs.Walk.{begun, within-most}
 use Rattle.walk.specs.declared.Walk.{Walk}

@@ -4,7 +4,7 @@ use lib.IntN.{pos}
 use borrow.Author.Needs.{needs}
 use Rattle.record.specs.declared.row.Row.{Row}
 use Rattle.kinds.specs.Kinds.{chargeOf}
-use Rattle.kinds.specs.Units.{cents}
+use Rattle.units.specs.Units.{cents}
 use Rattle.kinds.specs.declared.rows.Charge.{Charge}
 use Rattle.directory.specs.Found.{key-row}
 use Rattle.estimate.proofs.terms.charge_of.Statement.{statement}

@@ -4,7 +4,7 @@ use mathlib.Core.Path.{refl}
 use borrow.Author.Tests.{eqb-true}
 use Rattle.record.specs.Codes.{kindRequest}
 use Rattle.places.specs.Rows.{rowAt}
-use Rattle.directory.specs.Kept.{no-number}
+use Rattle.upkeep.specs.Kept.{no-number}
 use Rattle.applied.specs.Submit.{not-free}
 use Rattle.feed.specs.Sweep.{goes, stays}
 use borrow.Author.Needs.{needs}

@@ -4,7 +4,7 @@ use mathlib.Core.Bool.{false, true}
 use native.Mathlib.Omega.{arith}
 use denote.Ref.{now}
 use Rattle.kinds.specs.Kinds.{lotOf}
-use Rattle.kinds.specs.declared.units.Shares.{Shares}
+use Rattle.units.specs.declared.Shares.{Shares}
 use Rattle.places.specs.Rows.{rowAt}
 use Rattle.groups.specs.Sums.{adds-long, adds-none, adds-owed, adds-size, bit-no, bit-yes, kind-byte}
 use Rattle.groups.specs.Sums.{lot-amount, lot-told}

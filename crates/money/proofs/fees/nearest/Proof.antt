@@ -5,7 +5,7 @@ use mathlib.Core.Path.{ap}
 use Prim.Native.Nat.{ℕ, _+_, _/_, _≤_}
 use native.Mathlib.Omega.{arith}
 use lib.IntN.{pos}
-use Rattle.kinds.specs.Units.{cents}
+use Rattle.units.specs.Units.{cents}
 use Rattle.rules.specs.Ranges.{fee}
 use Rattle.money.specs.Amounts.{up-to}
 use Rattle.money.specs.Fees.{half-up, nearest-most}

@@ -3,7 +3,7 @@ use borrow.Author.Needs.{needs}
 use mathlib.Core.Path.{ap}
 use native.Mathlib.Omega.{arith}
 use Rattle.record.specs.Signed.{up}
-use Rattle.kinds.specs.Units.{cents}
+use Rattle.units.specs.Units.{cents}
 use Rattle.money.specs.Settle.{bought-is, sold-is}
 use Rattle.money.proofs.settle.settlement.Statement.{statement}
 use Rattle.money.proofs.settle.settlement.Tie as tie

@@ -4,7 +4,7 @@ use Prim.Native.Nat.{ℕ}
 use native.Mathlib.Omega.{arith}
 use lib.IntN.{pos}
 use Rattle.record.specs.Signed.{up}
-use Rattle.kinds.specs.Units.{cents}
+use Rattle.units.specs.Units.{cents}
 use Rattle.rules.specs.Ranges.{fee}
 use Rattle.money.specs.Amounts.{above-is, up-to}
 use Rattle.money.specs.Settle.{kept-all, kept-none}

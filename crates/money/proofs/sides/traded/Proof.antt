@@ -2,7 +2,7 @@
 use borrow.Author.Needs.{needs}
 use mathlib.Core.Path.{ap, sym, _∙_}
 use lib.IntN.{ℤ, negℤ}
-use Rattle.kinds.specs.Units.{shares}
+use Rattle.units.specs.Units.{shares}
 use Rattle.money.specs.Amounts.{above-is}
 use Rattle.money.proofs.sides.traded.Statement.{statement}
 use Rattle.money.proofs.sides.traded.Tie as tie

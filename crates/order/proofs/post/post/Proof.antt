@@ -3,7 +3,7 @@
 use mathlib.Core.Path.{refl, _∙_}
 use native.Mathlib.Omega.{arith}
 use borrow.Author.Needs.{needs}
-use Rattle.directory.specs.Added.{added-one}
+use Rattle.upkeep.specs.Added.{added-one}
 use Rattle.order.specs.Post.{all-added, left-done, left-next, left-one, left-start, live-history, live-request}
 use Rattle.order.specs.Post.{live-trade, may-add, rolled-back, submitted-now, waits}
 use Rattle.order.proofs.post.post.Statement.{statement}

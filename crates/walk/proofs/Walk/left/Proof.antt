@@ -3,7 +3,7 @@ use borrow.Author.Needs.{needs}
 use mathlib.Core.Path.{_≡_, refl, ap, _∙_}
 use native.Mathlib.Omega.{arith}
 use Rattle.record.specs.Signed.{up}
-use Rattle.kinds.specs.declared.units.Shares.{Shares}
+use Rattle.units.specs.declared.Shares.{Shares}
 use Rattle.rules.specs.Ranges.{sharesMost}
 use Rattle.money.specs.Amounts.{up-to}
 use Rattle.walk.specs.Walk.{takenOf}

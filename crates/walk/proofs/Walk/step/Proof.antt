@@ -5,7 +5,7 @@ use borrow.Author.Needs.{needs}
 use mathlib.Core.Path.{_≡_, subst, sym}
 use Prim.Native.Nat.{_+_, _≤_}
 use native.Mathlib.Omega.{arith}
-use Rattle.kinds.specs.Sizes.{abs-parts}
+use Rattle.units.specs.Sizes.{abs-parts}
 use Rattle.rules.specs.Ranges.{priceMost}
 use Rattle.money.specs.Amounts.{valueMost}
 use Rattle.walk.specs.declared.Walk.{Walk}

@@ -1,0 +1,3 @@
+pub mod Key
+pub mod KeyLaws
+pub mod Marks

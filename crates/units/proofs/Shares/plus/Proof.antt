@@ -1,0 +1,10 @@
+-- The sum of the numbers, under its name. Assumes nothing.
+use borrow.Author.Needs.{needs}
+use mathlib.Core.Path.{ap}
+use Rattle.units.specs.Units.{shares}
+use Rattle.units.specs.Sizes.{held}
+use Rattle.units.proofs.Shares.plus.Statement.{statement}
+use Rattle.units.proofs.Shares.plus.Tie as tie
+
+pub plus-spec : {M : Type 1} → statement M
+plus-spec = tie.close (tie.spec (λ c κs. search needs) (λ c. (ap shares (search held), search held)))
