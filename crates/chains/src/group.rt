@@ -2,7 +2,7 @@
 // what the rates of a customer, the bands of a type, tier and exchange and the histories of a trade differ in. A lot is
 // grouped by its account and symbol, a request by its symbol. Which bucket it is matters for speed alone.
 ghost use mathlib.Core.Path.{_≡_};
-ghost use mathlib.Core.Bool.{_||_, cond, false};
+ghost use mathlib.Core.Bool.{_||_, false};
 ghost use Prim.Native.Nat.{_<_, _≤_};
 ghost use lib.Dec.{eqb};
 ghost use lib.ListN.{getD};
@@ -13,6 +13,9 @@ ghost use Rattle.chains.specs.Group.{aGroup, bucketOf, groupOf, hashOf, 
 ghost use Rattle.chains.specs.Group.{requestGroup, spread};
 use crate::chain;
 use keys::Key;
+use keys::kept_symbol;
+use keys::kept32;
+use keys::kept64;
 use keys::marks;
 use record::bytes::wide32;
 use record::codes::Kind;
@@ -152,24 +155,6 @@ fn of_key(key: Key) -> Key
         key.id,
         key.symbol,
     )
-}
-
-fn kept32(named: bool, x: u32) -> u32
-    ensures { λ r. ⌜ r ≡ cond named x 0 ⌝ }
-{
-    if named { x } else { 0 }
-}
-
-fn kept64(named: bool, x: u64) -> u64
-    ensures { λ r. ⌜ r ≡ cond named x 0 ⌝ }
-{
-    if named { x } else { 0 }
-}
-
-fn kept_symbol(named: bool, x: Symbol) -> Symbol
-    ensures { λ r. ⌜ r ≡ cond named x noSymbol ⌝ }
-{
-    if named { x } else { Symbol::NONE }
 }
 
 // The group of a row that is neither a band nor a charge, without a branch: the fields of its key, but for a lot

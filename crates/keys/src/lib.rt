@@ -39,25 +39,26 @@ pub struct Key {
     pub m2: u64,
 }
 
+// A field where the key has it, else zero.
 fn kept8(named: bool, x: u8) -> u8
     ensures { λ r. ⌜ r ≡ cond named x 0 ⌝ }
 {
     if named { x } else { 0 }
 }
 
-fn kept32(named: bool, x: u32) -> u32
+pub fn kept32(named: bool, x: u32) -> u32
     ensures { λ r. ⌜ r ≡ cond named x 0 ⌝ }
 {
     if named { x } else { 0 }
 }
 
-fn kept64(named: bool, x: u64) -> u64
+pub fn kept64(named: bool, x: u64) -> u64
     ensures { λ r. ⌜ r ≡ cond named x 0 ⌝ }
 {
     if named { x } else { 0 }
 }
 
-fn kept_symbol(named: bool, x: Symbol) -> Symbol
+pub fn kept_symbol(named: bool, x: Symbol) -> Symbol
     ensures { λ r. ⌜ r ≡ cond named x noSymbol ⌝ }
 {
     if named { x } else { Symbol::NONE }

@@ -89,11 +89,16 @@ pub fn beyond(r: Row, u: Beyond, known: Symbol) -> bool
     }
 }
 
-// A symbol that is spelled right: this one, if it is.
-fn right(symbol: Symbol) -> Symbol
+// A symbol that is spelled right: this one, if it is asked for and is.
+fn right(asked: bool, symbol: Symbol) -> Symbol
     ensures { λ s. ⌜ symbolOk s ≡ true ⌝ }
 {
-    if symbol.ok() { symbol } else { Spelt::A }
+    if asked {
+        if symbol.ok() {
+            return symbol;
+        }
+    }
+    Spelt::A
 }
 
 // The whole rule of an input. Its own symbol is asked for here, too: with two callers `ok` stays a function, and
@@ -105,5 +110,5 @@ pub fn obeys(r: Row, u: Rule) -> bool
     let limits = u.limits;
     let more = u.beyond;
     let symbol = r.symbol;
-    in_limits(r, limits) & beyond(r, more, right(symbol))
+    in_limits(r, limits) & beyond(r, more, right(more.symbol, symbol))
 }
