@@ -195,12 +195,12 @@ extern "C" {
 #define BOOK_BAD_INPUT -103            /**< an input field breaks its rule */
 #define BOOK_ORDER_NO_ACCOUNT -711     /**< order: no such account */
 #define BOOK_ORDER_NO_SECURITY -712    /**< order: no such security */
-#define BOOK_ORDER_NO_TAX -731         /**< order: gain and tax status 1 or 2, yet tax is 0 */
+#define BOOK_ORDER_NO_TAX -731         /**< order: gain and tax status 1 or 2, yet the customer's rates sum to 0 */
 #define BOOK_ORDER_NO_RATE -732        /**< order: rate 0 or no band */
 #define BOOK_ORDER_NO_CHARGE -733      /**< order: charge 0 or no row */
 #define BOOK_RESULT_NO_TRADE -811      /**< result: no such trade */
 #define BOOK_RESULT_NOT_SUBMITTED -812 /**< result: the trade's status is not 2, submitted */
-#define BOOK_RESULT_NO_TAX -831        /**< result: gain and tax status 1 or 2, yet tax is 0 */
+#define BOOK_RESULT_NO_TAX -831        /**< result: gain and tax status 1 or 2, yet the customer's rates sum to 0 */
 #define BOOK_RESULT_NO_RATE -841       /**< result: rate 0 or no band */
 #define BOOK_FEED_NO_SECURITY -311     /**< feed: an entry's security is unknown */
 #define BOOK_LOOKUP_NO_TRADE -611      /**< lookup: a trade is unknown */

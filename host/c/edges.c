@@ -149,7 +149,7 @@ static void check_order_of_checking(void)
     put(row_at(&book, band_at(BOOK_TMS)), BOOK_AT_N3, 4, 0);
     not_booked("and a rate of 0", BOOK_RESULT_NO_RATE);
     put(row_at(&book, AT_TAX_RATE), BOOK_AT_N1, 4, 0);
-    not_booked("and a gain without tax", BOOK_RESULT_NO_TAX);
+    not_booked("and a gain with rates of 0", BOOK_RESULT_NO_TAX);
     ask(10, PRICE, TIME);
     not_booked("and the trade is completed", BOOK_RESULT_NOT_SUBMITTED);
     ask(TRADE + 1, PRICE, TIME);

@@ -203,20 +203,54 @@ static void taxed(const char *name, uint32_t bought_at, uint8_t tax_status, uint
     ordered(name);
 }
 
+/* The same, if the customer's one rate is this and the tax is 0. */
+static void rated(const char *name, uint32_t rate, uint32_t bought_at, uint8_t tax_status)
+{
+    const struct estimate estimate = {3000, 15, bought_at, 3000, 0};
+    gain(bought_at, tax_status);
+    put(row_at(&book, AT_TAX_RATE), BOOK_AT_N1, 4, rate);
+    expect_market(11, 0, estimate, 21, 22);
+    ordered(name);
+}
+
+static void unrated(const char *name, uint32_t bought_at, uint8_t tax_status)
+{
+    gain(bought_at, tax_status);
+    put(row_at(&book, AT_TAX_RATE), BOOK_AT_N1, 4, 0);
+    not_ordered(name, BOOK_ORDER_NO_TAX);
+}
+
 static void check_cents(void)
 {
     buy_one("P6: 1 share at 100, rate 50", 100, 1);
     buy_one("P6: 1 share at 99, rate 50", 99, 0);
     taxed("P7: a gain of 3", 2997, 1, 1);
-    gain(2998, 1);
-    not_ordered("P7: a gain of 2", BOOK_ORDER_NO_TAX);
+    taxed("P7: a gain of 2", 2998, 1, 0);
     taxed("a gain of 3, tax status 2", 2997, 2, 1);
-    gain(2998, 2);
-    not_ordered("a gain of 2, tax status 2", BOOK_ORDER_NO_TAX);
+    taxed("a gain of 2, tax status 2", 2998, 2, 0);
     taxed("a gain of 2, tax status 0", 2998, 0, 0);
     taxed("a gain of 1,000, tax status 0", 2000, 0, 0);
     taxed("no gain", 3000, 1, 0);
     taxed("a loss", 3001, 1, 0);
+}
+
+/* A gain is refused where the rates sum to 0, and not where the tax does. */
+static void check_rates_of_zero(void)
+{
+    rated("a gain of 1, rates of 1", 1, 2999, 1);
+    rated("a gain of 1, rates of 1, tax status 2", 1, 2999, 2);
+    rated("less than half a cent of tax", 49999, 2999, 1);
+    unrated("a gain of 1, rates of 0", 2999, 1);
+    unrated("a gain of 1, rates of 0, tax status 2", 2999, 2);
+    unrated("a gain of 2,999, rates of 0", 1, 1);
+    gain(1, 1);
+    memset(row_at(&book, AT_TAX_RATE + 1), 0, RECORD);
+    not_ordered("a gain of a customer without a rate", BOOK_ORDER_NO_TAX);
+    rated("no gain, rates of 0", 0, 3000, 1);
+    rated("a loss, rates of 0", 0, 3001, 1);
+    rated("a loss, rates of 0, tax status 2", 0, 3001, 2);
+    rated("a gain of 2, rates of 0, tax status 0", 0, 2998, 0);
+    rated("a gain of 2,999, rates of 0, tax status 0", 0, 1, 0);
 }
 
 /* One share of this symbol, which has a security, bought. */
@@ -364,7 +398,7 @@ static void check_order_of_checking(void)
     put(row_at(&book, band_at(BOOK_TMS)), BOOK_AT_N3, 4, 0);
     not_ordered("and a rate of 0", BOOK_ORDER_NO_RATE);
     put(row_at(&book, AT_TAX_RATE), BOOK_AT_N1, 4, 0);
-    not_ordered("and a gain without tax", BOOK_ORDER_NO_TAX);
+    not_ordered("and a gain with rates of 0", BOOK_ORDER_NO_TAX);
     set_symbol(input.bytes, "ABD");
     not_ordered("and no such security", BOOK_ORDER_NO_SECURITY);
     put(input.bytes, BOOK_AT_PARTY, 4, ACCOUNT + 1);
@@ -424,6 +458,7 @@ void check_orders(void)
     check_lots();
     check_ties();
     check_cents();
+    check_rates_of_zero();
     check_symbols();
     check_places();
     check_roll_back();

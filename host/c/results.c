@@ -203,24 +203,41 @@ static void taxed(const char *name, uint32_t bought_at, uint8_t tax_status, uint
     booked(name);
 }
 
+static void stand_rated(uint32_t rate, uint32_t bought_at, uint8_t tax_status)
+{
+    stand_gain(bought_at, tax_status, 4);
+    put(row_at(&book, AT_TAX_RATE), BOOK_AT_N1, 4, rate);
+}
+
 /* The same with tax status 1, if the customer's one rate is this. */
 static void taxed_at(const char *name, uint32_t rate, uint32_t bought_at, uint64_t tax, int64_t settles)
 {
-    stand_gain(bought_at, 1, 4);
-    put(row_at(&book, AT_TAX_RATE), BOOK_AT_N1, 4, rate);
+    stand_rated(rate, bought_at, 1);
     expect_gain(tax, settles);
     booked(name);
+}
+
+/* The same with this tax status, if the tax is 0. */
+static void rated(const char *name, uint32_t rate, uint32_t bought_at, uint8_t tax_status)
+{
+    stand_rated(rate, bought_at, tax_status);
+    expect_gain(0, 2485);
+    booked(name);
+}
+
+static void unrated(const char *name, uint32_t bought_at, uint8_t tax_status)
+{
+    stand_rated(0, bought_at, tax_status);
+    not_booked(name, BOOK_RESULT_NO_TAX);
 }
 
 static void check_taxes(void)
 {
     uint8_t *row;
     taxed("P7: a gain of 3", 2997, 1, 1, 2484);
-    stand_gain(2998, 1, 4);
-    not_booked("P7: a gain of 2", BOOK_RESULT_NO_TAX);
+    taxed("P7: a gain of 2", 2998, 1, 0, 2485);
     taxed("a gain of 3, tax status 2: the tax is recorded only", 2997, 2, 1, 2485);
-    stand_gain(2998, 2, 4);
-    not_booked("a gain of 2, tax status 2", BOOK_RESULT_NO_TAX);
+    taxed("a gain of 2, tax status 2", 2998, 2, 0, 2485);
     taxed("a gain of 2, tax status 0", 2998, 0, 0, 2485);
     taxed("a gain of 1,000, tax status 0", 2000, 0, 0, 2485);
     taxed("a gain of 1,000, tax status 1", 2000, 1, 200, 2285);
@@ -230,11 +247,7 @@ static void check_taxes(void)
     taxed_at("half a cent of tax", 50000, 2999, 1, 2484);
     taxed_at("one cent and a half", 50000, 2997, 2, 2483);
     taxed_at("the whole gain", 100000, 2000, 1000, 1485);
-    stand_gain(2999, 1, 4);
-    put(row_at(&book, AT_TAX_RATE), BOOK_AT_N1, 4, 49999);
-    not_booked("less than half a cent of tax", BOOK_RESULT_NO_TAX);
-    memset(row_at(&book, AT_TAX_RATE + 1), 0, RECORD);
-    not_booked("a customer without a rate", BOOK_RESULT_NO_TAX);
+    taxed_at("less than half a cent of tax", 49999, 2999, 0, 2485);
     stand_gain(2000, 1, 4);
     add_rate(CUSTOMER, TAX_RATE + 1, 30000);
     add_rate(CUSTOMER + 1, TAX_RATE + 2, 40000);
@@ -243,6 +256,26 @@ static void check_taxes(void)
     row[BOOK_AT_TYPE] = TIER;
     expect_gain(500, 1985);
     booked("the sum of the customer's rates");
+}
+
+/* A gain is refused where the rates sum to 0, and not where the tax does. */
+static void check_rates_of_zero(void)
+{
+    rated("a gain of 1, rates of 1", 1, 2999, 1);
+    rated("a gain of 1, rates of 1, tax status 2", 1, 2999, 2);
+    unrated("a gain of 1, rates of 0", 2999, 1);
+    unrated("a gain of 1, rates of 0, tax status 2", 2999, 2);
+    unrated("a gain of 2,999, rates of 0", 1, 1);
+    add_rate(CUSTOMER, TAX_RATE + 1, 0);
+    not_booked("two rates of 0", BOOK_RESULT_NO_TAX);
+    stand_rated(20000, 1, 1);
+    memset(row_at(&book, AT_TAX_RATE + 1), 0, RECORD);
+    not_booked("a gain of a customer without a rate", BOOK_RESULT_NO_TAX);
+    rated("no gain, rates of 0", 0, 3000, 1);
+    rated("a loss, rates of 0", 0, 3001, 1);
+    rated("a loss, rates of 0, tax status 2", 0, 3001, 2);
+    rated("a gain of 2, rates of 0, tax status 0", 0, 2998, 0);
+    rated("a gain of 2,999, rates of 0, tax status 0", 0, 1, 0);
 }
 
 /* One share bought at this price, if the rate is this. */
@@ -334,6 +367,7 @@ void check_results(void)
     check_order_of_lots();
     check_others();
     check_taxes();
+    check_rates_of_zero();
     check_commissions();
     check_types();
     check_charges();

@@ -26,7 +26,7 @@ use Rattle.rules.specs.Rules.{as-kind}
 use Rattle.model.specs.Band.{bandRate}
 use Rattle.model.specs.Call.{Call, aFeed, aLookup, aResult, anOrder, fieldsOf, lengthsOf, mostInputs}
 use Rattle.model.specs.Lots.{Walk}
-use Rattle.model.specs.Money.{taxOf, taxable, untaxed}
+use Rattle.model.specs.Money.{taxable, untaxed}
 use Rattle.model.specs.Names.{aCharge, aSecurity, aTrade, anAccount}
 use Rattle.model.specs.Rows.{found, hasKey, is, mostRecords, nothing, recordSize, rows, there, wholeRecords}
 use Rattle.model.specs.Sound.{sound}
@@ -227,8 +227,7 @@ module _ (rs : List Row) (good : sound rs ≡ true) where
   means-untaxed n rates w =
       let t = found (anAccount n) rs .form in
       means-as
-      (means-and (means-and (means-le 1 t) (means-lt (w .bought) (w .sold)))
-      (means-eq (taxOf t rates (w .bought) (w .sold)) 0))
+      (means-and (means-and (means-le 1 t) (means-lt (w .bought) (w .sold))) (means-eq rates 0))
       (λ h. (h .0 .1, one-or-two t (h .0 .0) (tax-status n), h .1))
       (λ h. ((⊎-elim (λ e. omega arith) (λ e. omega arith) (h .1), h .0), h .2))
     where

@@ -24,7 +24,6 @@ use Rattle.model.specs.declared.Status.the-variants.{ResultNoTax, ResultNoTrade
 use Rattle.model.specs.Call.{Call, Promise, aFeed, aLookup, aResult, anOrder, mostInputs, run}
 use Rattle.model.specs.Feed.{Fed, applied}
 use Rattle.model.specs.Lots.{Walk}
-use Rattle.model.specs.Money.{taxOf}
 use Rattle.model.specs.Names.{aBroker, aCustomer, aSecurity}
 use Rattle.model.specs.Order as order
 use Rattle.model.specs.Plan.{room}
@@ -83,10 +82,9 @@ Band form tier exchange shares r =
 abbrev pub ZeroOrNone : (Row → Type 0) → (Row → ℕ) → List Row → Type 0
 ZeroOrNone P field rs = None P rs ⊎ Some (λ r. P r × (field r ≡ 0)) rs
 
--- "gain and tax status 1 or 2, yet tax is 0"
+-- "there is a gain, the tax status is 1 or 2 and the customer's rates sum to zero"
 abbrev pub Untaxed : ℕ → ℕ → Walk → Type 0
-Untaxed taxStatus rates w =
-    (w .bought < w .sold) × ((taxStatus ≡ 1) ⊎ (taxStatus ≡ 2)) × (taxOf taxStatus rates (w .bought) (w .sold) ≡ 0)
+Untaxed taxStatus rates w = (w .bought < w .sold) × ((taxStatus ≡ 1) ⊎ (taxStatus ≡ 2)) × (rates ≡ 0)
 
 -- the tier of an account's customer, and the exchange of a security
 abbrev pub tierOf : List Row → Row → ℕ
@@ -130,7 +128,7 @@ orderLines rs i =
     -- "no such account; no such security"
     (OrderNoAccount when None (Account (i .party)) rs)
     ∷ (OrderNoSecurity when None (Security (i .symbol)) rs)
-    -- "gain and tax status 1 or 2, yet tax is 0"
+    -- "there is a gain, the tax status is 1 or 2 and the customer's rates sum to zero"
     ∷ (OrderNoTax when Untaxed (v .account .form) (v .rates) (order.walked i v))
     -- "rate 0 or no band; charge 0 or no row"
     ∷ (OrderNoRate when ZeroOrNone (Band (i .form) tier exchange (i .n1)) (λ r. r .n3) rs)

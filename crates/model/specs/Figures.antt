@@ -9,15 +9,15 @@ use mir.Syntax.{w64}
 use mir.Val.{toZ}
 use Rattle.laws.specs.Search.{count}
 use Rattle.record.specs.Bytes.{le}
-use Rattle.record.specs.Codes.{kindLot, kindRequest, kindSummary}
+use Rattle.record.specs.Codes.{kindLot, kindRequest, kindSummary, tms}
 use Rattle.record.specs.Grid.{encode}
 use Rattle.record.specs.declared.row.Row.{Row}
 use Rattle.model.specs.Call.{Reply, feedCall, orderCall, resultCall}
 use Rattle.model.specs.Evaluate.{feedOpened, orderOpened, resultOpened, tallyOpened}
 use Rattle.model.specs.Names.{aLot, aSummary, aTrade}
 use Rattle.model.specs.Rows.{bytes, found, is, rows}
-use Rattle.model.specs.Sample.{abc, buying, eight, entryAt, gaining, lastAt, orderFor, resultAt, selling, seven}
-use Rattle.model.specs.Sample.{waiting}
+use Rattle.model.specs.Sample.{abc, buying, eight, entryAt, gaining, gainingBy, lastAt, orderFor, orderOf}
+use Rattle.model.specs.Sample.{resultAt, selling, seven, waiting}
 use Rattle.model.specs.Status.{number}
 use Rattle.model.specs.Tally.{tally}
 
@@ -76,7 +76,7 @@ c gives o = record { case = c; outcome = o }
 abbrev minus : ℕ → ℤ
 minus n = negℤ (pos n)
 
--- P1 to P9, and the two rows on free places
+-- P1 to P9; beside P7 a row on rates of zero, and an order with a gain of 2 (2026-02); the two rows on free places
 abbrev pub table : List Figure
 table =
     (aResult (selling 1 120 6) (resultAt 3_000) gives
@@ -99,7 +99,10 @@ table =
     ∷ (aResult (gaining 2_997) (resultAt 3_000) gives
     (pos 0 ∷ pos 1 ∷ pos 15 ∷ pos 2_484 ∷ pos 1_002_484 ∷ pos 0 ∷ pos 0 ∷ pos 0 ∷ pos 0 ∷ pos 0 ∷ pos 0 ∷ []))
     ∷ (aResult (gaining 2_998) (resultAt 3_000) gives
+    (pos 0 ∷ pos 0 ∷ pos 15 ∷ pos 2_485 ∷ pos 1_002_485 ∷ pos 0 ∷ pos 0 ∷ pos 0 ∷ pos 0 ∷ pos 0 ∷ pos 0 ∷ []))
+    ∷ (aResult (gainingBy 0 2_998) (resultAt 3_000) gives
     (minus 831 ∷ pos 0 ∷ pos 0 ∷ pos 0 ∷ pos 0 ∷ pos 1 ∷ pos 0 ∷ pos 0 ∷ pos 1 ∷ pos 1 ∷ pos 1 ∷ []))
+    ∷ (anOrder (gaining 2_998) (orderOf tms 1 abc 1) gives (pos 0 ∷ pos 15 ∷ []))
     ∷ (aFeed waiting (entryAt 500) gives (pos 0 ∷ pos 1 ∷ pos 2 ∷ pos 0 ∷ []))
     ∷ (aFeed waiting (entryAt 501) gives (pos 0 ∷ pos 0 ∷ pos 1 ∷ pos 1 ∷ []))
     ∷ (anOrder waiting (orderFor seven 5) gives (pos 0 ∷ pos 3 ∷ []))

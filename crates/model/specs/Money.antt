@@ -36,9 +36,10 @@ unfoldable pub taxOf : ℕ → ℕ → ℕ → ℕ → ℕ
 taxOf status rates bought sold =
     cond (taxable status bought sold) (rounded ((sold - bought) * rates) (taxWhole)) 0
 
--- "gain and tax status 1 or 2, yet tax is 0"
+-- "exactly when there is a gain, the tax status is 1 or 2 and the customer's rates sum to zero" (2026-02): the tax may
+-- round to zero
 unfoldable pub untaxed : ℕ → ℕ → ℕ → ℕ → Bool
-untaxed status rates bought sold = taxable status bought sold && eqb (taxOf status rates bought sold) 0
+untaxed status rates bought sold = taxable status bought sold && eqb rates 0
 
 -- "rate × shares × price / 10,000"
 unfoldable pub commissionOf : ℕ → ℕ → ℕ → ℕ

@@ -120,6 +120,14 @@ priced price r = cond (eqb (r .kind) kindSecurity) (changed r (n1 ≔ price ∷ 
 abbrev pub lastAt : ℕ → List Row
 lastAt price = map (priced price) waiting
 
+-- every tax rate is this one
+abbrev rated : ℕ → Row → Row
+rated rate r = cond (eqb (r .kind) kindTaxRate) (changed r (n1 ≔ rate ∷ [])) r
+
+-- one share at a price, as above, and rates that sum to so much
+abbrev pub gainingBy : ℕ → ℕ → List Row
+gainingBy rates price = map (rated rates) (gaining price)
+
 -- the inputs
 abbrev pub resultAt : ℕ → Row
 resultAt price = new (kind ≔ kindResult ∷ id ≔ 12 ∷ n1 ≔ price ∷ when ≔ 1_000 ∷ [])

@@ -52,12 +52,11 @@ pub fn tax(tax_status: u8, rates: PerHundredThousand, bought: Cents, sold: Cents
     Cents(0)
 }
 
-// There is a gain that is to be tax_status, yet the tax is 0.
+// There is a gain that is to be taxed, yet the customer's rates sum to 0. A tax may well round to 0.
 pub fn untaxed(tax_status: u8, rates: PerHundredThousand, bought: Cents, sold: Cents) -> bool
-    requires { ⌜ (rates .0 ≤ taxPart .high) × (up (sold .0) ≤ valueMost) ⌝ }
     ensures { λ r. ⌜ r ≡ untaxed «tax_status» (rates .0) (up (bought .0)) (up (sold .0)) ⌝ }
 {
-    taxable(tax_status, bought, sold) & (tax(tax_status, rates, bought, sold).plain() == 0)
+    taxable(tax_status, bought, sold) & (rates.0 == 0)
 }
 
 pub fn commission(rate: PerTenThousand, shares: Shares, price: Price) -> Cents
