@@ -344,8 +344,8 @@ fn walk(
     walked
 }
 
-/// "Tax, only for tax status 1 or 2 with sold > bought". None is "gain and tax status 1 or 2, yet
-/// tax is 0".
+/// "Tax, only for tax status 1 or 2 with sold > bought". It may round to zero; None is for a gain
+/// where "the tax status is 1 or 2 and the customer's rates sum to zero" (2026-02).
 fn tax_of(book: &Book, account: &Row, walked: &Walked) -> Option<i128> {
     let gain = walked.sold - walked.bought;
     let taxed = (account.typ == 1 || account.typ == 2) && gain > 0;
@@ -359,10 +359,10 @@ fn tax_of(book: &Book, account: &Row, walked: &Walked) -> Option<i128> {
             rates += i128::from(book.rows[rate].n1);
         }
     }
-    match tax_on_gain(gain, rates) {
-        0 => None,
-        tax => Some(tax),
+    if rates == 0 {
+        return None;
     }
+    Some(tax_on_gain(gain, rates))
 }
 
 /// The rate "from the one band that holds the shares", for the trade's type, the customer's tier and

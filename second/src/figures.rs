@@ -11,6 +11,8 @@ pub struct Figure {
     pub lifo: bool,
     /// The lots of account 1 in "ABC": trade number, signed shares, price and time of each.
     pub lots: Vec<(u64, i64, u32, u32)>,
+    /// "rates 20,000".
+    pub rate: u32,
     /// Places that are free, after all others.
     pub free: usize,
 }
@@ -23,6 +25,7 @@ impl Figure {
             shares,
             lifo,
             lots: vec![(10, 100, 2_000, 100), (11, 50, 2_500, 200)],
+            rate: 20_000,
             free: 16,
         }
     }
@@ -34,8 +37,19 @@ impl Figure {
             shares: 80,
             lifo: false,
             lots: vec![(10, -50, 3_000, 100)],
+            rate: 20_000,
             free: 16,
         }
+    }
+
+    /// P7: one share of a lot at 2,000. The gain is the price less 2,000.
+    pub fn sell_one() -> Figure {
+        Figure::sell(1, false).with_lots(&[(10, 100, 2_000, 100)])
+    }
+
+    pub fn with_rate(mut self, rate: u32) -> Figure {
+        self.rate = rate;
+        self
     }
 
     pub fn with_free(mut self, free: usize) -> Figure {
@@ -67,7 +81,7 @@ impl Figure {
             Row {
                 kind: TAX_RATE,
                 party: 41,
-                n1: 20_000,
+                n1: self.rate,
                 ..Row::default()
             },
             Row {

@@ -122,34 +122,37 @@ fn p6_commission_rounds_halves_up() {
     }
 }
 
+/// P7 as 2026-02 has it, and beside it a gain that rates of zero refuse.
 #[test]
 fn p7_gain_of_three_and_of_two() {
-    let figure = Figure::sell(1, false).with_lots(&[(10, 100, 2_000, 100)]);
-    let (status, answer, _) = result_of(&figure, 2_003);
-    assert_eq!((status, answer.tax()), (0, 1));
-    let (status, answer, _) = result_of(&figure, 2_002);
-    assert_eq!(status, -831);
-    let refused = Row {
-        n5: -831i32 as u32,
-        ..Row::default()
-    };
-    assert_eq!(answer, refused);
-    // The same by an order at the bid.
-    for (bid, expected) in [(2_003, 0), (2_002, -731)] {
-        let mut book = figure.book();
-        let input = bytes_of(&[Row {
-            kind: 33,
-            typ: TLS,
-            party: 1,
-            symbol: symbol("ABC"),
-            n1: 1,
-            n2: bid,
-            ..Row::default()
-        }]);
-        let mut answer = [0; RECORD];
-        assert_eq!(calls::order(&mut book, &input, &mut answer), expected);
-        if expected == 0 {
-            assert_eq!(Row::read(&answer).tax(), 1);
+    // Price, rates, and the tax if it is accepted.
+    let cases = [
+        (2_003, 20_000, Some(1)),
+        (2_002, 20_000, Some(0)),
+        (2_002, 0, None),
+    ];
+    for (price, rates, tax) in cases {
+        let figure = Figure::sell_one().with_rate(rates);
+        let (status, answer, rows) = result_of(&figure, price);
+        match tax {
+            Some(tax) => {
+                assert_eq!(status, 0);
+                let settlement = i64::from(price) - 500 - 10 - tax as i64;
+                expect(&answer, &rows, tax, 10, settlement);
+            }
+            None => {
+                let refused = Row {
+                    n5: -831i32 as u32,
+                    ..Row::default()
+                };
+                assert_eq!((status, answer), (-831, refused));
+            }
+        }
+        // The same by an order at the bid.
+        let (status, answer) = order(&mut figure.book(), TLS, 1, price, b"ABC");
+        match tax {
+            Some(tax) => assert_eq!((status, answer.tax()), (0, tax)),
+            None => assert_eq!(status, -731),
         }
     }
 }

@@ -131,6 +131,7 @@ fn results_can_be_checked_from_their_rows() {
     let mut rng = Rng::new(32);
     let mut checked = 0;
     let mut taxed = 0;
+    let mut rounded_to_zero = 0;
     let mut opened = 0;
     for _ in 0..6_000 {
         let records = 24 + rng.index(60);
@@ -253,7 +254,8 @@ fn results_can_be_checked_from_their_rows() {
         let tax = i128::from(answer.tax());
         if account.typ != 0 && sold > bought {
             taxed += 1;
-            assert!(tax > 0 && is_rounded(tax, (sold - bought) * rates, 100_000));
+            rounded_to_zero += u32::from(tax == 0);
+            assert!(rates > 0 && is_rounded(tax, (sold - bought) * rates, 100_000));
         } else {
             assert_eq!(tax, 0);
         }
@@ -350,8 +352,8 @@ fn results_can_be_checked_from_their_rows() {
         }
     }
     assert!(
-        checked > 800 && taxed > 40 && opened > 200,
-        "{checked} {taxed} {opened}"
+        checked > 800 && taxed > 40 && rounded_to_zero > 10 && opened > 200,
+        "{checked} {taxed} {rounded_to_zero} {opened}"
     );
 }
 
@@ -450,6 +452,7 @@ fn orders_can_be_told_lot_by_lot() {
     let mut rng = Rng::new(34);
     let mut checked = 0;
     let mut closing = 0;
+    let mut rounded_to_zero = 0;
     for _ in 0..6_000 {
         let records = 20 + rng.index(90);
         let plan = Plan::for_call(&mut rng, Call::Order, records);
@@ -515,8 +518,8 @@ fn orders_can_be_told_lot_by_lot() {
         }
         if account.typ > 0 && sold > bought {
             let gain = i128::from(sold) - i128::from(bought);
-            assert!(is_rounded(answer.tax().into(), gain * rates, 100_000));
-            assert_ne!(answer.tax(), 0);
+            rounded_to_zero += u32::from(answer.tax() == 0);
+            assert!(rates > 0 && is_rounded(answer.tax().into(), gain * rates, 100_000));
         } else {
             assert_eq!(answer.tax(), 0);
         }
@@ -582,5 +585,8 @@ fn orders_can_be_told_lot_by_lot() {
         }
         assert_eq!(rows_of(&book), after);
     }
-    assert!(checked > 1_500 && closing > 400, "{checked} {closing}");
+    assert!(
+        checked > 1_500 && closing > 400 && rounded_to_zero > 10,
+        "{checked} {closing} {rounded_to_zero}"
+    );
 }

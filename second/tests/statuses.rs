@@ -163,10 +163,7 @@ fn order_status(rows: &[Row], input: &Row) -> i32 {
         (r.kind, r.typ, r.status) == (CHARGE, input.typ, tier)
     });
     first_of(&[
-        (
-            -731,
-            taxed && nearest(gain * rates(rows, &account), 100_000) == 0,
-        ),
+        (-731, taxed && rates(rows, &account) == 0),
         (
             -732,
             band_rate(rows, &account, input.symbol, input.typ, input.n1) == 0,
@@ -217,7 +214,7 @@ fn result_status(rows: &[Row], input: &Row) -> i32 {
         + usize::from(summary.is_none())
         + if cash { 3 } else { 2 };
     first_of(&[
-        (-831, taxed && tax == 0),
+        (-831, taxed && rates(rows, &account) == 0),
         (-841, rate == 0),
         (-104, balance.abs() > most),
         (-104, broker.n1 == 999_999_999),
