@@ -1,6 +1,7 @@
-//! What an accepted call had to do, in words, so that one sees whether random cases do enough.
+//! What an accepted call had to do, in words, so that one sees whether random cases do enough; and
+//! why a gain was refused.
 
-use crate::calls::Call;
+use crate::calls::{Call, ORDER_NO_TAX, RESULT_NO_TAX};
 use crate::record::*;
 
 /// Every feature that random cases should show, even on books of 24 records.
@@ -16,6 +17,12 @@ pub const WANTED: &[(Call, &[&str])] = &[
             "has a loss",
             "is taxed",
             "has a gain untaxed",
+            "has a tax that rounds to zero",
+            "has a gain of 1 at rates of 1",
+            "has a gain of 2 at rates of 20,000",
+            "has a loss at rates of zero",
+            "breaks even at rates of zero",
+            "has a gain untaxed at rates of zero",
             "rolls back",
             "is LIFO",
         ],
@@ -39,6 +46,12 @@ pub const WANTED: &[(Call, &[&str])] = &[
             "is taxed",
             "records the tax only",
             "has a gain untaxed",
+            "has a tax that rounds to zero",
+            "has a gain of 1 at rates of 1",
+            "has a gain of 2 at rates of 20,000",
+            "has a loss at rates of zero",
+            "breaks even at rates of zero",
+            "has a gain untaxed at rates of zero",
             "has a loss",
             "is cash",
             "is not cash",
@@ -63,6 +76,95 @@ pub const WANTED: &[(Call, &[&str])] = &[
         &["finds a settlement", "finds none", "names a trade twice"],
     ),
 ];
+
+const WITHOUT_RATES: &str = "is refused without rates";
+const ZERO_RATES: &str = "is refused with rates of zero";
+
+/// The two ways to -731 and -831 that random cases of this call should show: rates sum to zero as
+/// there are none, or none above zero.
+pub fn untaxable(call: Call) -> &'static [&'static str] {
+    match call {
+        Call::Order | Call::Result => &[WITHOUT_RATES, ZERO_RATES],
+        Call::Feed | Call::Lookup => &[],
+    }
+}
+
+/// Which of them led this call to its status, if it is -731 or -831.
+pub fn of_refusal(call: Call, status: i32, book: &[u8], input: &[u8]) -> Option<&'static str> {
+    if status != ORDER_NO_TAX && status != RESULT_NO_TAX {
+        return None;
+    }
+    let (rows, input) = (rows_of(book), rows_of(input)[0]);
+    let party = match call {
+        Call::Order => input.party,
+        _ => {
+            let trade = rows.iter().find(|r| r.kind == TRADE && r.id == input.id);
+            trade.expect("else it is -811").party
+        }
+    };
+    let rates = rates_of(&rows, account_of(&rows, party));
+    Some(if rates.is_empty() {
+        WITHOUT_RATES
+    } else {
+        ZERO_RATES
+    })
+}
+
+fn account_of(rows: &[Row], party: u32) -> &Row {
+    let account = rows.iter().find(|r| r.kind == ACCOUNT && r.party == party);
+    account.expect("S3, or it was looked up")
+}
+
+/// The rates of an account's customer.
+fn rates_of(rows: &[Row], account: &Row) -> Vec<u32> {
+    let links = rows
+        .iter()
+        .filter(|r| r.kind == CUSTOMER_RATE && r.party == account.n2);
+    links
+        .map(|link| {
+            let rate = rows
+                .iter()
+                .find(|r| r.kind == TAX_RATE && r.party == link.n1);
+            rate.expect("S3").n1
+        })
+        .collect()
+}
+
+/// What the rule of tax makes of an accepted order or result that closes lots.
+fn of_tax(rows: &[Row], account: &Row, gain: i128, tax: u64) -> Vec<&'static str> {
+    let rates: u32 = rates_of(rows, account).iter().sum();
+    let taxed = account.typ != 0;
+    let list = [
+        (gain > 0 && tax > 0, "is taxed"),
+        (gain > 0 && !taxed, "has a gain untaxed"),
+        (
+            gain > 0 && taxed && tax == 0,
+            "has a tax that rounds to zero",
+        ),
+        (
+            gain == 1 && taxed && rates == 1,
+            "has a gain of 1 at rates of 1",
+        ),
+        (
+            gain == 2 && taxed && rates == 20_000,
+            "has a gain of 2 at rates of 20,000",
+        ),
+        (
+            gain < 0 && taxed && rates == 0,
+            "has a loss at rates of zero",
+        ),
+        (
+            gain == 0 && taxed && rates == 0,
+            "breaks even at rates of zero",
+        ),
+        (
+            gain > 0 && !taxed && rates == 0,
+            "has a gain untaxed at rates of zero",
+        ),
+    ];
+    let holding = list.into_iter().filter(|(holds, _)| *holds);
+    holding.map(|(_, name)| name).collect()
+}
 
 /// The features of this accepted call.
 pub fn of(
@@ -89,22 +191,19 @@ pub fn of(
             note(answer.m1 > 0, "closes lots");
             note(answer.m2 > answer.m1, "has a gain");
             note(answer.m2 < answer.m1, "has a loss");
-            note(answer.tax() > 0, "is taxed");
-            note(
-                answer.m2 > answer.m1 && answer.tax() == 0,
-                "has a gain untaxed",
-            );
             note(input.flags & FLAG_ROLL_BACK != 0, "rolls back");
             note(input.flags & FLAG_LIFO != 0, "is LIFO");
+            if answer.m1 > 0 {
+                let account = account_of(&before, input.party);
+                let gain = i128::from(answer.m2) - i128::from(answer.m1);
+                found.extend(of_tax(&before, account, gain, answer.tax()));
+            }
         }
         Call::Result => {
             let (input, answer) = (&input[0], &answer[0]);
             let trade = before.iter().find(|r| r.kind == TRADE && r.id == input.id);
             let trade = trade.expect("it was accepted");
-            let account = before
-                .iter()
-                .find(|r| r.kind == ACCOUNT && r.party == trade.party);
-            let account = account.expect("S3");
+            let account = account_of(&before, trade.party);
             let steps: Vec<&Row> = after
                 .iter()
                 .filter(|row| row.kind == LOT_HISTORY && row.m2 == trade.id && row.id != trade.id)
@@ -149,9 +248,7 @@ pub fn of(
                 "changes the summary's sign",
             );
             note(was.is_some() && steps.is_empty(), "adds to a position");
-            note(answer.tax() > 0, "is taxed");
             note(answer.tax() > 0 && account.typ == 2, "records the tax only");
-            note(gain > 0 && answer.tax() == 0, "has a gain untaxed");
             note(gain < 0, "has a loss");
             note(trade.flags & FLAG_CASH != 0, "is cash");
             note(trade.flags & FLAG_CASH == 0, "is not cash");
@@ -173,6 +270,9 @@ pub fn of(
                     || answer.signed_m1().abs() == MAX_MONEY,
                 "brings a total to its limit",
             );
+            if !steps.is_empty() {
+                found.extend(of_tax(&before, account, gain, answer.tax()));
+            }
         }
         Call::Feed => {
             let answer = &answer[0];

@@ -4,7 +4,7 @@
 //! which keeps it sound, until its places are used up but for those that shall stay free. Then the
 //! rows are strewn over the places.
 
-use crate::calls::{Call, MAX_ENTRIES};
+use crate::calls::{Call, MAX_ENTRIES, ORDER_NO_TAX, RESULT_NO_TAX};
 use crate::mutate;
 use crate::record::*;
 use crate::rng::Rng;
@@ -520,13 +520,14 @@ impl Maker<'_> {
     fn tax_rates(&mut self, most: u64) {
         let mut rates = Vec::new();
         for _ in 0..self.rng.between(1, most) {
-            let rate = match self.rng.below(9) {
+            let rate = match self.rng.below(10) {
                 0 => 0,
-                1 => self.rng.between32(1, 10),
-                2 => MAX_RATE,
-                3 => self.rng.between32(1, MAX_RATE),
+                1 => 1,
+                2 => self.rng.between32(1, 10),
+                3 => MAX_RATE,
+                4 => self.rng.between32(1, MAX_RATE),
                 // Of an odd gain, this is a half exactly.
-                4 => 50_000,
+                5 => 50_000,
                 _ => 20_000,
             };
             if let Some(party) = self.tax_rate(rate) {
@@ -1354,7 +1355,10 @@ pub fn any_case(rng: &mut Rng, call: Call) -> Case {
 fn case_of(rng: &mut Rng, call: Call, records: usize) -> Case {
     let plan = Plan::for_call(rng, call, records);
     let book = book_of(rng, &plan);
-    let case = case_on(rng, call, book);
+    let mut case = case_on(rng, call, book);
+    if rng.chance(20) {
+        case = to_a_small_gain(rng, case);
+    }
     // A result has five edges, the others one or two.
     if rng.chance(if call == Call::Result { 30 } else { 15 }) {
         return to_the_edge(rng, case);
@@ -1473,6 +1477,89 @@ pub fn to_the_edge(rng: &mut Rng, mut case: Case) -> Case {
         }
     }
     case.book = bytes_of(&rows);
+    case
+}
+
+/// Changes the book and the input of an order or a result that would close lots, so that it closes one
+/// share with the gain, tax status and rates that decide over -731 and -831. Other cases stay as they
+/// are.
+pub fn to_a_small_gain(rng: &mut Rng, mut case: Case) -> Case {
+    if !matches!(case.call, Call::Order | Call::Result) {
+        return case;
+    }
+    let mut after = case.book.clone();
+    let mut answer = case.answer.clone();
+    let status = case.call.run(&mut after, &case.input, &mut answer);
+    if ![0, ORDER_NO_TAX, RESULT_NO_TAX].contains(&status) {
+        return case;
+    }
+    let mut rows = rows_of(&case.book);
+    let mut input = rows_of(&case.input)[0];
+    let trade = match case.call {
+        Call::Order => input,
+        _ => {
+            let trade = rows.iter().find(|r| r.kind == TRADE && r.id == input.id);
+            *trade.expect("else it is -811")
+        }
+    };
+    let mut lots = of_kind(&rows, LOT);
+    lots.retain(|lot| (lot.party, lot.symbol) == (trade.party, trade.symbol));
+    lots.retain(|lot| (lot.signed_m1() < 0) == buys(trade.typ));
+    lots.sort_by_key(|lot| (lot.time, lot.id));
+    if trade.flags & FLAG_LIFO != 0 {
+        lots.reverse();
+    }
+    let Some(lot) = lots.first() else {
+        return case;
+    };
+
+    let taxed = rng.between32(1, 2) as u8;
+    let few = rng.between(1, 3) as i64;
+    let (tax_status, rates, gain) = match rng.below(10) {
+        0 | 1 => (taxed, 1, 1),
+        2 | 3 => (taxed, 20_000, 2),
+        // To both sides of half a cent.
+        4 => (taxed, 49_999 + rng.between32(0, 1), 1),
+        5 | 6 => (taxed, 0, few),
+        7 => (taxed, 0, 0),
+        8 => (taxed, 0, -few),
+        _ => (0, 0, few),
+    };
+    let rise = if buys(trade.typ) { -gain } else { gain };
+    let price = (i64::from(lot.n1) + rise).clamp(1, i64::from(MAX_PRICE)) as u32;
+    let account = rows
+        .iter_mut()
+        .find(|r| r.kind == ACCOUNT && r.party == trade.party);
+    let account = account.expect("S3, or else it is -711");
+    account.typ = tax_status;
+    let customer = account.n2;
+    // One rate of the customer, if there is one, is the sum; all others of the book are zero, so that
+    // S5 holds for every customer.
+    let link = rows
+        .iter()
+        .find(|r| r.kind == CUSTOMER_RATE && r.party == customer);
+    let link = link.map(|link| link.n1);
+    let at_last_price = case.call == Call::Order && trade.typ <= TMS;
+    for row in &mut rows {
+        match row.kind {
+            TAX_RATE if Some(row.party) == link => row.n1 = rates,
+            TAX_RATE => row.n1 = 0,
+            TRADE if case.call == Call::Result && row.id == trade.id => row.n1 = 1,
+            SECURITY if at_last_price && row.symbol == trade.symbol => row.n1 = price,
+            _ => {}
+        }
+    }
+    match case.call {
+        Call::Order => {
+            input.n1 = 1;
+            if !at_last_price {
+                input.n2 = price;
+            }
+        }
+        _ => input.n1 = price,
+    }
+    case.book = bytes_of(&rows);
+    case.input = bytes_of(&[input]);
     case
 }
 

@@ -55,13 +55,16 @@ fn every_status_is_reached() {
                 let case = gen::case(&mut rng, *call, most);
                 let (status, answer, book) = run(&case);
                 *counts.entry(status).or_default() += 1;
+                if let Some(name) = features::of_refusal(*call, status, &case.book, &case.input) {
+                    *found.entry(name).or_default() += 1;
+                }
                 if status == 0 {
                     for name in features::of(*call, &case.book, &book, &case.input, &answer) {
                         *found.entry(name).or_default() += 1;
                     }
                 }
             }
-            for name in *wanted {
+            for name in wanted.iter().chain(features::untaxable(*call)) {
                 assert!(
                     found.contains_key(name),
                     "{} {name}: {found:?}",
