@@ -125,11 +125,12 @@ impl Yardstick {
 
         let mut tax = 0;
         if account.typ() != 0 && gain > 0 {
-            // Below 10 to the 19: 999,999 shares, 99,999,999 cents, 100,000 of a rate.
-            tax = (gain as u64 * u64::from(self.rate_sums[customer]) + 50_000) / 100_000;
-            if tax == 0 {
+            let rates = u64::from(self.rate_sums[customer]);
+            if rates == 0 {
                 return Err(RESULT_NO_TAX);
             }
+            // Below 10 to the 19: 999,999 shares, 99,999,999 cents, 100,000 of a rate.
+            tax = (gain as u64 * rates + 50_000) / 100_000;
         }
         let rate = self.rate(rows, [trade.typ(), tier, exchange], trade.n1());
         if rate == 0 {

@@ -228,10 +228,10 @@ impl<'a> Posting<'a> {
             let [rates] = self
                 .one(&self.rates, &[Number(customer)])
                 .expect("a sum is one row");
-            tax = tax_on_gain(i128::from(sold - bought), i128::from(rates)) as i64;
-            if tax == 0 {
+            if rates == 0 {
                 return Err(RESULT_NO_TAX);
             }
+            tax = tax_on_gain(i128::from(sold - bought), i128::from(rates)) as i64;
             self.write(&self.update_tax, &[Number(tax), Number(id)]);
         }
 
