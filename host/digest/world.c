@@ -89,7 +89,8 @@ static void add_parties(struct book *book, size_t *used)
     }
     for (uint64_t i = 1; i <= book->rates && (row = add(book, used, BOOK_KIND_TAX_RATE)); i++) {
         book_put_u32(row + BOOK_AT_PARTY, i);
-        book_put_u32(row + BOOK_AT_N1, once_in(4) ? 0 : drawn(1, MOST_RATES / 2));
+        /* No rate, one so small that most of its taxes round to zero, or any. */
+        book_put_u32(row + BOOK_AT_N1, once_in(4) ? 0 : drawn(1, once_in(3) ? 5 : MOST_RATES / 2));
     }
     for (uint64_t i = 1; i <= book->customers && (row = add(book, used, BOOK_KIND_CUSTOMER)); i++) {
         book_put_u32(row + BOOK_AT_PARTY, i);
