@@ -182,7 +182,7 @@ extern "C" {
 /** @name The version: of the header, the archive and the shared object. */
 /** @{ */
 #define BOOK_VERSION_MAJOR 1 /**< rises when a call that was accepted may now leave other bytes */
-#define BOOK_VERSION_MINOR 0 /**< rises with new calls, kinds or statuses */
+#define BOOK_VERSION_MINOR 0 /**< rises with new calls, kinds or statuses, or if a refused call may be accepted now */
 #define BOOK_VERSION_PATCH 0 /**< rises with any other change */
 /** @} */
 

@@ -2,7 +2,7 @@
 
 # The version: of the header, the archive and the shared object.
 VERSION_MAJOR = 1  # rises when a call that was accepted may now leave other bytes
-VERSION_MINOR = 0  # rises with new calls, kinds or statuses
+VERSION_MINOR = 0  # rises with new calls, kinds or statuses, or if a refused call may be accepted now
 VERSION_PATCH = 0  # rises with any other change
 
 # What a call returns, in the order of checking. The comment is the condition.
