@@ -23,6 +23,8 @@ pub const WANTED: &[(Call, &[&str])] = &[
             "has a loss at rates of zero",
             "breaks even at rates of zero",
             "has a gain untaxed at rates of zero",
+            "has gain × rates past the largest signed 64-bit number",
+            "has gain × rates from 2^62 to the largest signed 64-bit number",
             "rolls back",
             "is LIFO",
         ],
@@ -52,6 +54,8 @@ pub const WANTED: &[(Call, &[&str])] = &[
             "has a loss at rates of zero",
             "breaks even at rates of zero",
             "has a gain untaxed at rates of zero",
+            "has gain × rates past the largest signed 64-bit number",
+            "has gain × rates from 2^62 to the largest signed 64-bit number",
             "has a loss",
             "is cash",
             "is not cash",
@@ -134,6 +138,8 @@ fn rates_of(rows: &[Row], account: &Row) -> Vec<u32> {
 fn of_tax(rows: &[Row], account: &Row, gain: i128, tax: u64) -> Vec<&'static str> {
     let rates: u32 = rates_of(rows, account).iter().sum();
     let taxed = account.typ != 0;
+    let product = gain * i128::from(rates);
+    let largest = i128::from(i64::MAX);
     let list = [
         (gain > 0 && tax > 0, "is taxed"),
         (gain > 0 && !taxed, "has a gain untaxed"),
@@ -160,6 +166,14 @@ fn of_tax(rows: &[Row], account: &Row, gain: i128, tax: u64) -> Vec<&'static str
         (
             gain > 0 && !taxed && rates == 0,
             "has a gain untaxed at rates of zero",
+        ),
+        (
+            taxed && product > largest,
+            "has gain × rates past the largest signed 64-bit number",
+        ),
+        (
+            taxed && (1 << 62..=largest).contains(&product),
+            "has gain × rates from 2^62 to the largest signed 64-bit number",
         ),
     ];
     let holding = list.into_iter().filter(|(holds, _)| *holds);

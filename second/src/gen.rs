@@ -1353,17 +1353,29 @@ pub fn any_case(rng: &mut Rng, call: Call) -> Case {
 }
 
 fn case_of(rng: &mut Rng, call: Call, records: usize) -> Case {
-    let plan = Plan::for_call(rng, call, records);
-    let book = book_of(rng, &plan);
-    let mut case = case_on(rng, call, book);
+    let mut case = unmoved_case(rng, call, records);
     if rng.chance(20) {
         case = to_a_small_gain(rng, case);
+    } else if matches!(call, Call::Order | Call::Result) && rng.chance(5) {
+        // One case in seven can be changed so, thus a few are tried.
+        let large = (0..4).find_map(|_| {
+            let case = unmoved_case(rng, call, records);
+            to_a_large_gain(rng, case)
+        });
+        case = large.unwrap_or(case);
     }
     // A result has five edges, the others one or two.
     if rng.chance(if call == Call::Result { 30 } else { 15 }) {
         return to_the_edge(rng, case);
     }
     case
+}
+
+/// A case before it is changed for a certain gain or moved to an edge.
+fn unmoved_case(rng: &mut Rng, call: Call, records: usize) -> Case {
+    let plan = Plan::for_call(rng, call, records);
+    let book = book_of(rng, &plan);
+    case_on(rng, call, book)
 }
 
 /// A random call on this sound book, which may be spoilt for it.
@@ -1480,29 +1492,102 @@ pub fn to_the_edge(rng: &mut Rng, mut case: Case) -> Case {
     case
 }
 
-/// Changes the book and the input of an order or a result that would close lots, so that it closes one
-/// share with the gain, tax status and rates that decide over -731 and -831. Other cases stay as they
-/// are.
-pub fn to_a_small_gain(rng: &mut Rng, mut case: Case) -> Case {
-    if !matches!(case.call, Call::Order | Call::Result) {
-        return case;
-    }
-    let mut after = case.book.clone();
-    let mut answer = case.answer.clone();
-    let status = case.call.run(&mut after, &case.input, &mut answer);
-    if ![0, ORDER_NO_TAX, RESULT_NO_TAX].contains(&status) {
-        return case;
-    }
-    let mut rows = rows_of(&case.book);
-    let mut input = rows_of(&case.input)[0];
-    let trade = match case.call {
-        Call::Order => input,
-        _ => {
-            let trade = rows.iter().find(|r| r.kind == TRADE && r.id == input.id);
-            *trade.expect("else it is -811")
+/// An order or a result that is accepted, or refused for its tax, to be changed for another tax.
+struct Parts {
+    rows: Vec<Row>,
+    input: Row,
+    /// The order's input itself, or the trade that the result names.
+    trade: Row,
+    /// A rate of the account's customer, if there is one.
+    rate: Option<u32>,
+}
+
+/// What decides over the tax beside the lots.
+struct Terms {
+    shares: u32,
+    price: u32,
+    tax_status: u8,
+    /// The sum of the customer's rates.
+    rates: u32,
+}
+
+impl Parts {
+    fn of(case: &Case) -> Option<Parts> {
+        if !matches!(case.call, Call::Order | Call::Result) {
+            return None;
         }
+        let mut after = case.book.clone();
+        let mut answer = case.answer.clone();
+        let status = case.call.run(&mut after, &case.input, &mut answer);
+        if ![0, ORDER_NO_TAX, RESULT_NO_TAX].contains(&status) {
+            return None;
+        }
+        let rows = rows_of(&case.book);
+        let input = rows_of(&case.input)[0];
+        let trade = match case.call {
+            Call::Order => input,
+            _ => {
+                let trade = rows.iter().find(|r| r.kind == TRADE && r.id == input.id);
+                *trade.expect("else it is -811")
+            }
+        };
+        let account = rows
+            .iter()
+            .find(|r| r.kind == ACCOUNT && r.party == trade.party);
+        let customer = account.expect("S3, or else it is -711").n2;
+        let link = rows
+            .iter()
+            .find(|r| r.kind == CUSTOMER_RATE && r.party == customer);
+        let rate = link.map(|link| link.n1);
+        Some(Parts {
+            rows,
+            input,
+            trade,
+            rate,
+        })
+    }
+
+    /// The case with these terms. One rate of the customer, if there is one, is the sum; all others
+    /// of the book are zero, so that S5 holds for every customer.
+    fn with(mut self, terms: Terms, case: Case) -> Case {
+        let trade = self.trade;
+        let at_last_price = case.call == Call::Order && trade.typ <= TMS;
+        for row in &mut self.rows {
+            match row.kind {
+                ACCOUNT if row.party == trade.party => row.typ = terms.tax_status,
+                TAX_RATE if Some(row.party) == self.rate => row.n1 = terms.rates,
+                TAX_RATE => row.n1 = 0,
+                TRADE if case.call == Call::Result && row.id == trade.id => row.n1 = terms.shares,
+                SECURITY if at_last_price && row.symbol == trade.symbol => row.n1 = terms.price,
+                _ => {}
+            }
+        }
+        match case.call {
+            Call::Order => {
+                self.input.n1 = terms.shares;
+                if !at_last_price {
+                    self.input.n2 = terms.price;
+                }
+            }
+            _ => self.input.n1 = terms.price,
+        }
+        Case {
+            book: bytes_of(&self.rows),
+            input: bytes_of(&[self.input]),
+            ..case
+        }
+    }
+}
+
+/// Changes the book and the input of an order or a result that would close lots, so that it closes
+/// one share with the gain, tax status and rates that decide over -731 and -831. Other cases stay
+/// as they are.
+pub fn to_a_small_gain(rng: &mut Rng, case: Case) -> Case {
+    let Some(parts) = Parts::of(&case) else {
+        return case;
     };
-    let mut lots = of_kind(&rows, LOT);
+    let trade = parts.trade;
+    let mut lots = of_kind(&parts.rows, LOT);
     lots.retain(|lot| (lot.party, lot.symbol) == (trade.party, trade.symbol));
     lots.retain(|lot| (lot.signed_m1() < 0) == buys(trade.typ));
     lots.sort_by_key(|lot| (lot.time, lot.id));
@@ -1527,40 +1612,75 @@ pub fn to_a_small_gain(rng: &mut Rng, mut case: Case) -> Case {
     };
     let rise = if buys(trade.typ) { -gain } else { gain };
     let price = (i64::from(lot.n1) + rise).clamp(1, i64::from(MAX_PRICE)) as u32;
-    let account = rows
-        .iter_mut()
-        .find(|r| r.kind == ACCOUNT && r.party == trade.party);
-    let account = account.expect("S3, or else it is -711");
-    account.typ = tax_status;
-    let customer = account.n2;
-    // One rate of the customer, if there is one, is the sum; all others of the book are zero, so that
-    // S5 holds for every customer.
-    let link = rows
-        .iter()
-        .find(|r| r.kind == CUSTOMER_RATE && r.party == customer);
-    let link = link.map(|link| link.n1);
-    let at_last_price = case.call == Call::Order && trade.typ <= TMS;
-    for row in &mut rows {
-        match row.kind {
-            TAX_RATE if Some(row.party) == link => row.n1 = rates,
-            TAX_RATE => row.n1 = 0,
-            TRADE if case.call == Call::Result && row.id == trade.id => row.n1 = 1,
-            SECURITY if at_last_price && row.symbol == trade.symbol => row.n1 = price,
-            _ => {}
-        }
+    let terms = Terms {
+        shares: 1,
+        price,
+        tax_status,
+        rates,
+    };
+    parts.with(terms, case)
+}
+
+/// Changes the book and the input of an order or a result that meets lots, so that its gain is
+/// nearly as large as may be and the rates are high: mostly, their product passes the largest
+/// signed 64-bit number (2026-06). None for other cases and for customers without rates.
+pub fn to_a_large_gain(rng: &mut Rng, case: Case) -> Option<Case> {
+    let mut parts = Parts::of(&case)?;
+    let trade = parts.trade;
+    let buy = buys(trade.typ);
+    let held = |row: &Row| (row.party, row.symbol) == (trade.party, trade.symbol);
+    let rows = parts.rows.iter_mut();
+    let mut lots: Vec<&mut Row> = rows.filter(|r| r.kind == LOT && held(r)).collect();
+    if lots.is_empty() || parts.rate.is_none() {
+        return None;
     }
-    match case.call {
-        Call::Order => {
-            input.n1 = 1;
-            if !at_last_price {
-                input.n2 = price;
-            }
-        }
-        _ => input.n1 = price,
+
+    // Each lot may have all the shares; together they have nearly as many at least.
+    let least = (MAX_SHARES - little(rng)) / lots.len() as u32;
+    let mut sum = 0;
+    for lot in &mut lots {
+        let shares = i64::from(rng.between32(least, MAX_SHARES));
+        let shares = if buy { -shares } else { shares };
+        lot.n1 = price_at_limit(rng, buy);
+        lot.m1 = shares as u64;
+        sum += shares;
     }
-    case.book = bytes_of(&rows);
-    case.input = bytes_of(&[input]);
-    case
+    let mut rows = parts.rows.iter_mut();
+    let summary = rows.find(|r| r.kind == SUMMARY && held(r));
+    summary.expect("S8").m1 = sum as u64;
+
+    let rates = match rng.below(8) {
+        0 | 1 => MAX_RATE,
+        2 => MAX_RATE - 1,
+        // Of one gain in twenty, this is a half exactly.
+        3 => 95_000,
+        // At the lowest of these, only the largest gain passes that number.
+        4 => rng.between32(92_234, MAX_RATE),
+        // With these none does, yet the product is 2^62 or more.
+        _ => rng.between32(MAX_RATE / 2, 92_233),
+    };
+    let terms = Terms {
+        shares: MAX_SHARES - little(rng),
+        price: price_at_limit(rng, !buy),
+        tax_status: rng.between32(1, 2) as u8,
+        rates,
+    };
+    Some(parts.with(terms, case))
+}
+
+/// Nearly the highest price or nearly the lowest.
+fn price_at_limit(rng: &mut Rng, high: bool) -> u32 {
+    if high {
+        MAX_PRICE - little(rng)
+    } else {
+        1 + little(rng)
+    }
+}
+
+/// Zero, or at most a hundredth of the most shares.
+fn little(rng: &mut Rng) -> u32 {
+    let most = *rng.pick(&[0, 9, 9_999]);
+    rng.between32(0, most)
 }
 
 /// Gives the trade of the largest number this one instead, wherever it is named.

@@ -106,6 +106,33 @@ fn cases_at_the_edge() {
     }
 }
 
+/// Cases changed for a large gain are still on a sound book. Where they are accepted, gain × rates
+/// is 2^62 or more, and falls to both sides of the largest signed 64-bit number.
+#[test]
+fn cases_of_a_large_gain() {
+    let mut rng = Rng::new(27);
+    for call in [Call::Order, Call::Result] {
+        let mut counts: BTreeMap<&str, u32> = BTreeMap::new();
+        for _ in 0..3_000 {
+            let case = gen::case(&mut rng, call, 40);
+            let Some(case) = gen::to_a_large_gain(&mut rng, case) else {
+                continue;
+            };
+            assert_eq!(sound::check(&case.book), Ok(()));
+            let (status, answer, book) = run(&case);
+            if status != 0 {
+                continue;
+            }
+            let mut names = features::of(call, &case.book, &book, &case.input, &answer);
+            names.retain(|name| name.starts_with("has gain × rates"));
+            assert_eq!(names.len(), 1);
+            *counts.entry(names[0]).or_default() += 1;
+        }
+        assert_eq!(counts.len(), 2);
+        assert!(counts.values().all(|count| *count > 50), "{counts:?}");
+    }
+}
+
 #[test]
 fn full_books() {
     let mut rng = Rng::new(22);
