@@ -1,14 +1,14 @@
--- Tax and commission in numbers of 64 bits: a half is added before the division, and no product leaves its range.
--- Assumes nothing.
+-- Rounding with a half added before the division, the most that shares are worth, and the gain that is taxed. Assumes
+-- nothing.
 use mathlib.Core.Path.{_≡_, sym, _∙_}
 use mathlib.Core.Bool.{Bool, true}
-use Prim.Native.Nat.{ℕ, suc, _+_, _-_, _*_, _/_, _≤_, _<_}
+use Prim.Native.Nat.{ℕ, suc, _+_, _*_, _/_, _≤_, _<_}
 use native.Mathlib.Nat.{div-lt-iff-lt-mul, mul-div-mul-left, mul-le-mul, suc-mul}
 use native.Mathlib.Omega.{arith}
 use lib.Dec.{leb, ltb}
 use borrow.Author.Tests.{ltb-true}
 use Rattle.laws.specs.Tests.{and-right}
-use Rattle.rules.specs.Ranges.{commissionPart, priceMost, sharesMost, taxPart}
+use Rattle.rules.specs.Ranges.{priceMost, sharesMost}
 use Rattle.model.specs.Money.{rounded, taxable}
 use Rattle.money.specs.Amounts.{valueMost}
 
@@ -23,22 +23,9 @@ nearest-most a w m h k =
     let less : a + w / 2 < suc m * w = omega (arith, suc-mul m w) in
     omega (arith, div-lt-iff-lt-mul h .1 less)
 
--- ---- products
-pub tax-product : (rates bought sold : ℕ) → rates ≤ taxPart .high → sold ≤ valueMost
-    → (sold - bought) * rates ≤ valueMost * taxPart .high
-tax-product rates bought sold r s =
-    let g : sold - bought ≤ valueMost = omega arith in mul-le-mul {n₂ = valueMost} g r
-
+-- ---- a product
 pub value-most : (shares price : ℕ) → shares ≤ sharesMost → price ≤ priceMost → shares * price ≤ valueMost
 value-most shares price s p = mul-le-mul s p
-
-pub commission-product : (rate shares : ℕ) → rate ≤ commissionPart .high → shares ≤ sharesMost
-    → rate * shares ≤ commissionPart .high * sharesMost
-commission-product rate shares r s = mul-le-mul r s
-
-pub commission-whole : (rate shares price : ℕ) → rate ≤ commissionPart .high → shares ≤ sharesMost → price ≤ priceMost
-    → rate * shares * price ≤ commissionPart .high * sharesMost * priceMost
-commission-whole rate shares price r s p = mul-le-mul (commission-product rate shares r s) p
 
 -- ---- a gain that is to be taxed
 pub tax-gain : (status bought sold : ℕ) {x : Bool} → x ≡ taxable status bought sold → x ≡ true → bought < sold

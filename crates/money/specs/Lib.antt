@@ -1,3 +1,4 @@
 pub mod Amounts
 pub mod Fees
 pub mod Settle
+pub mod Steps

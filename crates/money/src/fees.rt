@@ -1,13 +1,15 @@
 // The value of shares at a price, and what is paid on it: tax and commission, rounded to the nearest cent, halves up.
 // Each lies within half a cent of the exact fraction, by `tax-near` and `commission-near` of the model.
 ghost use mathlib.Core.Path.{_≡_};
-ghost use Prim.Native.Nat.{_*_, _/_, _<_, _≤_};
+ghost use Prim.Native.Nat.{_*_, _≤_};
 ghost use lib.IntN.{pos};
 ghost use Rattle.record.specs.Signed.{up};
 ghost use Rattle.units.specs.Units.{cents};
 ghost use Rattle.rules.specs.Ranges.{commissionPart, fee, priceMost, sharesMost, taxPart};
-ghost use Rattle.model.specs.Money.{commissionOf, rounded, taxOf, taxable, untaxed};
+ghost use Rattle.model.specs.Money.{commissionOf, taxOf, taxable, untaxed};
 ghost use Rattle.money.specs.Amounts.{UpTo, valueMost};
+use crate::parts::part;
+use crate::parts::times;
 use kinds::limits::Ranges;
 use units::Cents;
 use units::PerHundredThousand;
@@ -20,17 +22,7 @@ pub fn value(shares: Shares, price: Price) -> Cents
     ensures { λ r. ⌜ r ≡ cents (pos (up (shares .0) * price .0)) ⌝ }
     ensures { λ r. ⌜ UpTo valueMost (r .0) ⌝ }
 {
-    Cents::of(shares.plain() * price.0 as u64)
-}
-
-// So many parts of a cent, of which a whole one has an even number, to the nearest cent.
-fn nearest(parts: u64, whole: u32) -> Cents
-    requires { ⌜ (0 < whole) × (whole ≡ 2 * (whole / 2)) × (whole ≤ taxPart .high) ⌝ }
-    requires { ⌜ parts ≤ fee .high * whole ⌝ }
-    ensures { λ r. ⌜ r ≡ cents (pos (rounded parts whole)) ⌝ }
-    ensures { λ r. ⌜ UpTo (fee .high) (r .0) ⌝ }
-{
-    Cents::of((parts + whole as u64 / 2) / whole as u64)
+    Cents::of(times(shares.plain(), price.0 as u64))
 }
 
 fn taxable(tax_status: u8, bought: Cents, sold: Cents) -> bool
@@ -47,7 +39,7 @@ pub fn tax(tax_status: u8, rates: PerHundredThousand, bought: Cents, sold: Cents
 {
     if taxable(tax_status, bought, sold) {
         let gain = sold.plain() - bought.plain();
-        return nearest(gain * rates.0 as u64, Ranges::RATE_MOST);
+        return part(gain, rates.0 as u64, Ranges::RATE_MOST as u64);
     }
     Cents(0)
 }
@@ -64,6 +56,6 @@ pub fn commission(rate: PerTenThousand, shares: Shares, price: Price) -> Cents
     ensures { λ r. ⌜ r ≡ cents (pos (commissionOf (rate .0) (up (shares .0)) (price .0))) ⌝ }
     ensures { λ r. ⌜ UpTo (fee .high) (r .0) ⌝ }
 {
-    let parts = rate.0 as u64 * shares.plain() * price.0 as u64;
-    nearest(parts, Ranges::COMMISSION_MOST)
+    let value = value(shares, price);
+    part(value.plain(), rate.0 as u64, Ranges::COMMISSION_MOST as u64)
 }

@@ -37,9 +37,13 @@ pub fn settlement(
 {
     let kept = withheld(tax_status, tax);
     if buys(trade_type) {
-        return value.plus(charge).plus(commission).negated().less(kept);
+        let with_charge = value.plus(charge);
+        let paid = with_charge.plus(commission);
+        return paid.negated().less(kept);
     }
-    value.less(charge).less(commission).less(kept)
+    let without_charge = value.less(charge);
+    let received = without_charge.less(commission);
+    received.less(kept)
 }
 
 // A cash trade adds its settlement.

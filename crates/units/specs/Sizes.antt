@@ -40,6 +40,9 @@ pub abs-neg : (z : ℤ) → natAbs (negℤ z) ≡ natAbs z
 abs-neg z = omega (arith, abs-parts z, abs-parts (negℤ z), up-neg z, dn-neg z)
 
 -- ---- in 64 bits
+pub in-range : {n : ℕ} → n < 2 ^ 62 → n ≤ signedMost
+in-range h = omega arith
+
 pub near-fits : (z : ℤ) → natAbs z ≤ signedMost → SFits w64 z
 near-fits (pos n) h = record { sfits = omega arith }
 near-fits (negsuc n) h = record { sfits = omega arith }
@@ -107,6 +110,7 @@ module _ (z : ℤ) {x : ℕ} (h : mag z < 2 ^ 63) where
 
 pub ruleset held = (
   needs,
+  in-range,
   same-held,
   up-held,
   size-held,

@@ -1,7 +1,7 @@
 // The meta-types of clause 2.2.2, kept apart: a count of shares is never handed over as a count of cents, nor a trade
 // number as an account.
 ghost use mathlib.Core.Path.{_≡_};
-ghost use Prim.Native.Nat.{_+_, _%_, _≤_};
+ghost use Prim.Native.Nat.{_+_, _%_, _^_, _<_, _≤_};
 ghost use lib.ListN.{length};
 ghost use lib.IntN.{_+ℤ_, _-ℤ_, natAbs, negℤ, pos};
 ghost use mir.Syntax.{w32, w64};
@@ -77,12 +77,12 @@ impl Shares {
     }
 }
 
-// Money.
+// Money. What is worked out with it stays below 2^62, so that a debugger shows it as it is (2026-06).
 pub struct Cents(pub i64);
 
 impl Cents {
     pub fn of(x: u64) -> Cents
-        requires { ⌜ x ≤ signedMost ⌝ }
+        requires { ⌜ x < 2 ^ 62 ⌝ }
         ensures { λ r. ⌜ r ≡ cents (pos x) ⌝ }
         ensures { λ r. ⌜ (up (r .0) ≡ x) × (natAbs (r .0) ≡ x) ⌝ }
     {
@@ -98,7 +98,7 @@ impl Cents {
     }
 
     pub fn plus(self, other: Cents) -> Cents
-        requires { ⌜ natAbs (self .0) + natAbs (other .0) ≤ signedMost ⌝ }
+        requires { ⌜ natAbs (self .0) + natAbs (other .0) < 2 ^ 62 ⌝ }
         ensures { λ r. ⌜ r ≡ cents (self .0 +ℤ other .0) ⌝ }
         ensures { λ r. ⌜ natAbs (r .0) ≤ natAbs (self .0) + natAbs (other .0) ⌝ }
     {
@@ -106,7 +106,7 @@ impl Cents {
     }
 
     pub fn negated(self) -> Cents
-        requires { ⌜ natAbs (self .0) ≤ signedMost ⌝ }
+        requires { ⌜ natAbs (self .0) < 2 ^ 62 ⌝ }
         ensures { λ r. ⌜ r ≡ cents (negℤ (self .0)) ⌝ }
         ensures { λ r. ⌜ natAbs (r .0) ≡ natAbs (self .0) ⌝ }
     {
@@ -114,7 +114,7 @@ impl Cents {
     }
 
     pub fn less(self, other: Cents) -> Cents
-        requires { ⌜ natAbs (self .0) + natAbs (other .0) ≤ signedMost ⌝ }
+        requires { ⌜ natAbs (self .0) + natAbs (other .0) < 2 ^ 62 ⌝ }
         ensures { λ r. ⌜ r ≡ cents (self .0 -ℤ other .0) ⌝ }
         ensures { λ r. ⌜ natAbs (r .0) ≤ natAbs (self .0) + natAbs (other .0) ⌝ }
     {

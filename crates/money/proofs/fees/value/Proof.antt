@@ -12,16 +12,17 @@ within : (c : tie.After-struct-known)
     → c .before .plain .result * c .before .before .args .price .0 ≤ valueMost
 within c = value-most (c .before .plain .result) (c .before .before .args .price .0) (omega arith) (omega arith)
 
-mul-of : tie.Need-mul-of
-mul-of c = record { fits = omega (arith, within c) }
+times-requires : tie.Need-times-requires
+times-requires c κs = omega (arith, within c)
 
 of-requires : tie.Need-of-requires
-of-requires c κs = omega (arith, within c)
+of-requires c κs = rw (c .times .ensures) (omega (arith, within (c .before)))
 
 returns : tie.Need-returns
 returns c =
-    let h = rw (c .before .before .plain .ensures .0) at (within (c .before)) in
-    rw (c .of .ensures .0, c .before .before .plain .ensures .0) (refl, up-to valueMost _ h)
+    let factors = c .before .before in
+    let h = rw (factors .before .plain .ensures .0) at (within factors) in
+    rw (c .of .ensures .0, c .before .times .ensures, factors .before .plain .ensures .0) (refl, up-to valueMost _ h)
 
 pub value-spec : {M : Type 1} → statement M
-value-spec = tie.close (tie.spec (λ c κs. search needs) (λ c. search needs) mul-of of-requires returns)
+value-spec = tie.close (tie.spec (λ c κs. search needs) (λ c. search needs) times-requires of-requires returns)

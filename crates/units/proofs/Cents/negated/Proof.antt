@@ -1,5 +1,4 @@
 -- The negation of the number, under its name. Assumes nothing.
-use borrow.Author.Needs.{needs}
 use mathlib.Core.Path.{ap}
 use Rattle.units.specs.Units.{cents}
 use Rattle.units.specs.Sizes.{held}
@@ -7,4 +6,4 @@ use Rattle.units.proofs.Cents.negated.Statement.{statement}
 use Rattle.units.proofs.Cents.negated.Tie as tie
 
 pub negated-spec : {M : Type 1} → statement M
-negated-spec = tie.close (tie.spec (λ c κs. search needs) (λ c. (ap cents (search held), search held)))
+negated-spec = tie.close (tie.spec (λ c κs. search held) (λ c. (ap cents (search held), search held)))
