@@ -138,6 +138,23 @@ static void check_largest_figures(void)
     booked("the earliest time, before that of the lots");
 }
 
+/* A result that makes this gain; tax status 2 only records the tax. */
+static void large_gain(const struct gain *gain, uint8_t type, uint8_t tax_status)
+{
+    const struct figures figures = figures_of(gain, type);
+    const int64_t value = (int64_t)gain->shares * figures.price, side = type == BOOK_TMS ? 1 : -1;
+    const int64_t taken = tax_status == 1 ? (int64_t)gain->tax : 0;
+    const int64_t settles = side * value - CHARGE - (int64_t)figures.commission - taken;
+    stand_large(gain, type, tax_status);
+    submit(type, BOOK_FLAG_CASH, gain->shares, figures.price, 5);
+    expect(AT_TRADE, (struct outcome){figures.commission, gain->tax, settles, BALANCE + settles});
+    expect_closed(10, LOT_10, side * (int64_t)(gain->shares - 1), 0);
+    expect_closed(11, LOT_11, side, 0);
+    expect_shares(SUMMARY, 0);
+    expect_settled(1);
+    booked(gain->name);
+}
+
 /* Each fault comes before those that were there already. */
 static void check_order_of_checking(void)
 {
@@ -378,6 +395,7 @@ void check_edges(void)
     check_room();
     check_limits();
     check_largest_figures();
+    each_gain(large_gain);
     check_order_of_checking();
     check_fields();
     refuses_lengths(BOOK_KIND_RESULT, begin_good, 1, 1);

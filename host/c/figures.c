@@ -156,6 +156,65 @@ void stand_among_others(void)
     add_figures();
 }
 
+static const struct gain gains[] = {
+    {"the largest gain, rates 100,000", 999999, 1, 1, 99999999, 100000, 99999898000002, 5000, 499999495000},
+    {"the largest gain, rates 99,999", 999999, 1, 1, 99999999, 99999, 99998898001022, 5000, 499999495000},
+    {"the largest gain, rates 99,998", 999999, 1, 1, 99999999, 99998, 99997898002042, 5000, 499999495000},
+    {"the largest gain, rates 92,234", 999999, 1, 1, 99999999, 92234, 92233905921322, 5000, 499999495000},
+    {"the largest gain, rates 92,233", 999999, 1, 1, 99999999, 92233, 92232905922342, 5000, 499999495000},
+    {"the largest gain, rates 50,001", 999999, 1, 1, 99999999, 50001, 50000948998981, 5000, 499999495000},
+    {"the largest gain, rates 50,000", 999999, 1, 1, 99999999, 50000, 49999949000001, 5000, 499999495000},
+    {"the largest gain, rates 1", 999999, 1, 1, 99999999, 1, 999998980, 5000, 499999495000},
+    {"a cent less, rates 100,000", 999999, 1, 2, 99999999, 100000, 99999898000001, 5000, 499999495000},
+    {"a cent less, rates 99,999", 999999, 1, 2, 99999999, 99999, 99998898001021, 5000, 499999495000},
+    {"a cent less, rates 50,001", 999999, 1, 2, 99999999, 50001, 50000948998981, 5000, 499999495000},
+    {"two cents less, rates 100,000", 999999, 1, 3, 99999999, 100000, 99999898000000, 5000, 499999495000},
+    {"two cents less, rates 99,999", 999999, 1, 3, 99999999, 99999, 99998898001020, 5000, 499999495000},
+    {"a cent less for each, rates 100,000", 999999, 1, 1, 99999998, 100000, 99999897000003, 5000, 499999490000},
+    {"a cent less for each, rates 99,999", 999999, 1, 1, 99999998, 99999, 99998897001033, 5000, 499999490000},
+    {"paid a cent more for each, rates 100,000", 999999, 2, 2, 99999999, 100000, 99999897000003, 10000, 499999495000},
+    {"paid a cent more for each, rates 99,999", 999999, 2, 2, 99999999, 99999, 99998897001033, 10000, 499999495000},
+    {"a share less, rates 100,000", 999998, 1, 1, 99999999, 100000, 99999798000004, 5000, 499998995000},
+    {"a share less, rates 99,999", 999998, 1, 1, 99999999, 99999, 99998798002024, 5000, 499998995000},
+};
+
+static int64_t signed_shares(uint8_t type, uint32_t shares)
+{
+    return type == BOOK_TMS ? (int64_t)shares : -(int64_t)shares;
+}
+
+struct figures figures_of(const struct gain *gain, uint8_t type)
+{
+    const uint64_t bought = (uint64_t)gain->shares * gain->bought_at, sold = (uint64_t)gain->shares * gain->sold_at;
+    const uint32_t apart = gain->last_at - gain->bought_at;
+    if (type == BOOK_TMS)
+        return (struct figures){gain->sold_at, gain->commission_of_sell, bought + apart, sold};
+    return (struct figures){gain->bought_at, gain->commission_of_buy, bought, sold - apart};
+}
+
+void stand_large(const struct gain *gain, uint8_t type, uint8_t tax_status)
+{
+    const uint32_t apart = gain->last_at - gain->bought_at;
+    stand("ABC", figures_of(gain, type).price);
+    row_at(&book, AT_ACCOUNT)[BOOK_AT_TYPE] = tax_status;
+    put(row_at(&book, AT_TAX_RATE), BOOK_AT_N1, 4, gain->rates);
+    put(row_at(&book, band_at(type)), BOOK_AT_N2, 4, 999999);
+    add_lot(10, signed_shares(type, gain->shares - 1), type == BOOK_TMS ? gain->bought_at : gain->sold_at, 100);
+    add_lot(11, signed_shares(type, 1), type == BOOK_TMS ? gain->last_at : gain->sold_at - apart, 200);
+    add_summary(signed_shares(type, gain->shares));
+}
+
+void each_gain(void (*try_gain)(const struct gain *gain, uint8_t type, uint8_t tax_status))
+{
+    size_t n;
+    uint8_t tax_status;
+    for (n = 0; n < sizeof gains / sizeof gains[0]; n++)
+        for (tax_status = 1; tax_status <= 2; tax_status++) {
+            try_gain(&gains[n], BOOK_TMS, tax_status);
+            try_gain(&gains[n], BOOK_TMB, tax_status);
+        }
+}
+
 void fill_up(size_t left)
 {
     uint32_t party = 1000;

@@ -39,6 +39,29 @@ void stand_with_holes(void);
 /* The lots of the figures at places 28 to 36, behind one of account 2 and one of another symbol. */
 void stand_among_others(void);
 
+/* The largest gains and their taxes: the plain product of gain and rates may pass 2^63. So many shares were bought at one
+   price, but the last of them at another, and are sold. A buy makes the same gain of shares that are owed: so many were
+   sold, the last of them for so much less, and are bought back. */
+struct gain {
+    const char *name;
+    uint32_t shares, bought_at, last_at, sold_at, rates;
+    uint64_t tax, commission_of_buy, commission_of_sell;
+};
+
+/* What a market order of this type comes to. */
+struct figures {
+    uint32_t price;
+    uint64_t commission, bought, sold;
+};
+struct figures figures_of(const struct gain *gain, uint8_t type);
+
+/* The account of the figures with this tax status and these rates, a band for all shares, the lots 10 and 11 that make
+   this gain, and their summary. They are at the places of the lots of the figures. */
+void stand_large(const struct gain *gain, uint8_t type, uint8_t tax_status);
+
+/* Tries each of them by a sell and by a buy, with tax status 1 and 2. */
+void each_gain(void (*try_gain)(const struct gain *gain, uint8_t type, uint8_t tax_status));
+
 /* Adds brokers until the book has all records that there may be, but for so many free places at its end. */
 void fill_up(size_t left);
 

@@ -27,8 +27,8 @@ static void ask(const char *letters, uint8_t type, uint8_t flags, uint32_t share
 }
 
 struct estimate {
-    uint32_t price, commission;
-    uint64_t bought, sold, tax;
+    uint32_t price;
+    uint64_t commission, bought, sold, tax;
 };
 
 /* Of 120 shares sold from the lots of the figures, FIFO: at 3,000, the last price, and at a bid of 2,900. */
@@ -253,6 +253,19 @@ static void check_rates_of_zero(void)
     rated("a gain of 2,999, rates of 0, tax status 0", 0, 1, 0);
 }
 
+/* An order that makes this gain. */
+static void large_gain(const struct gain *gain, uint8_t type, uint8_t tax_status)
+{
+    const struct figures figures = figures_of(gain, type);
+    const struct estimate estimate = {
+        figures.price, figures.commission, figures.bought, figures.sold, gain->tax};
+    stand_large(gain, type, tax_status);
+    add_free(&book, 2);
+    ask("ABC", type, 0, gain->shares, 0);
+    expect_market(12, 0, estimate, 25, 26);
+    ordered(gain->name);
+}
+
 /* One share of this symbol, which has a security, bought. */
 static void buy_of(const char *letters)
 {
@@ -459,6 +472,7 @@ void check_orders(void)
     check_ties();
     check_cents();
     check_rates_of_zero();
+    each_gain(large_gain);
     check_symbols();
     check_places();
     check_roll_back();
