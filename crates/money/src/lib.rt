@@ -1,6 +1,6 @@
 // What is computed with money and shares, by typed values alone: tax and commission, the settlement and the balance
 // after it, and shares on a trade's side.
 pub mod fees;
-pub mod parts;
+mod parts;
 pub mod settle;
 pub mod sides;
