@@ -72,21 +72,21 @@ fn spelled(symbol: Symbol, known: Symbol) -> bool
     symbol.ok()
 }
 
-// What is no range. A symbol is at hand that is spelled right, and may well be the row's own.
-pub fn beyond(r: Row, u: Beyond, known: Symbol) -> bool
+// What is no range, for a row of which it is told whether its fields are in range. A symbol is at hand that is spelled
+// right, and may well be the row's own; the row's is read last, and only where all else is right.
+pub fn beyond(t: bool, r: Row, u: Beyond, known: Symbol) -> bool
     requires { ⌜ (u .m1 < 9223372036854775808) × (u .n1n2 < 2147483648) × (symbolOk known ≡ true) ⌝ }
-    ensures { λ b. ⌜ b ≡ beyond u r ⌝ }
+    ensures { λ b. ⌜ b ≡ beyond t u r ⌝ }
 {
     let clause = u.clause;
     let symbol = r.symbol;
-    let t1 = compared(true, clause, r);
+    let t1 = compared(t, clause, r);
     let t2 = bound64(t1, u.m1, r.m1);
     let t3 = bound32(t2, u.n1n2, r.n1, r.n2);
-    if u.symbol {
-        t3 & spelled(symbol, known)
-    } else {
-        t3
+    if t3 & u.symbol {
+        return spelled(symbol, known);
     }
+    t3
 }
 
 // A symbol that is spelled right: this one, if it is asked for and is.
@@ -110,5 +110,5 @@ pub fn obeys(r: Row, u: Rule) -> bool
     let limits = u.limits;
     let more = u.beyond;
     let symbol = r.symbol;
-    in_limits(r, limits) & beyond(r, more, right(more.symbol, symbol))
+    beyond(in_limits(r, limits), r, more, right(more.symbol, symbol))
 }
