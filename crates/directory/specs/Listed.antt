@@ -8,11 +8,12 @@ use native.Mathlib.Nat.{zero-add, mul-suc, mul-le-mul-left}
 use native.Mathlib.Numerals.{add-one}
 use native.Mathlib.Omega.{arith}
 use lib.ListN.{length, drop, getD}
+use lib.Dec.{eqb}
 use borrow.Author.Tests.{eq-eqb, eqb-true, eqb-false}
 use Rattle.laws.specs.Chain.{Chained, numbered}
 use Rattle.laws.specs.Search.{place, seek, total}
 use Rattle.laws.specs.Walk.{from, from-high, from-holds, from-low, from-passes, from-skips, left-next, left-none}
-use Rattle.keys.specs.Key.{keyOf}
+use Rattle.keys.specs.Key.{keyOf, sameKey}
 use Rattle.keys.specs.KeyLaws.{same-keys}
 use Rattle.keys.specs.declared.Key.{Key}
 use Rattle.record.specs.declared.row.Row.{Row}
@@ -262,3 +263,17 @@ module _ (r : Row) {k : Key} (n : apart (r .kind) ≡ false) (e : k ≡ keyOf r)
 
   pub own-group : (b : List ℕ) (i : ℕ) → r ≡ rowAt b i → groupOf (rowAt b i) ≡ keyGroup k
   own-group b i q = ap groupOf (sym q) ∙ by-key r n ∙ ap keyGroup (sym e)
+
+  -- a walk from where a search for the row's key has come to
+  pub probed-bucket : {b d : List ℕ} {w c : ℕ} → Probed (hasKey (keyOf r)) (keyGroup (keyOf r)) b d w c
+      → InBucket b d (keyGroup k) c
+  probed-bucket s = rw e (record { here = s .here })
+
+  pub probed-walk : {b d : List ℕ} {w c x : ℕ} → Probed (hasKey (keyOf r)) (keyGroup (keyOf r)) b d w c
+      → x ≡ seek (hasKey k) c (drop c (rows b)) → x ≡ w
+  probed-walk s q = q ∙ rw e (s .sought .same)
+
+-- a row of another kind does not have it
+pub other-kind : (r s : Row) → eqb (s .kind) (r .kind) ≡ false → hasKey (keyOf r) s ≡ false
+unfolding hasKey sameKey keyOf
+other-kind r s h = rw h

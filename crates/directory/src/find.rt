@@ -55,15 +55,20 @@ pub fn walk(book: &[u8], dir: &[u16], m: Marks, key: Key, from: usize) -> usize
     c
 }
 
-// The next place after i with the key of the row at i, the number of places where there is none.
+// The next place after i with the key of the row at i, the number of places where there is none. Most rows that share a
+// bucket are of two kinds, so that the key is made for the first row of the same kind, and for most not at all.
 pub fn again(book: &[u8], dir: &[u16], i: usize, row: Row) -> usize
     requires { ⌜ Listed (now book) (now dir) ⌝ }
     requires { ⌜ (i < places (now book)) × (row ≡ rowAt (now book) i) × (apart (row .kind) ≡ false) ⌝ }
     ensures { λ r. ⌜ r ≡ seek (hasKey (keyOf row)) (i + 1) (drop (i + 1) (rows (now (book .entry)))) ⌝ }
 {
-    let c = next(dir, i);
-    if book.len() / Grid::SIZE <= c {
-        return c;
+    let n = book.len() / Grid::SIZE;
+    let mut c = next(dir, i);
+    while c < n {
+        if row_at(book, c).kind == row.kind {
+            return walk(book, dir, marks(row.kind), Key::of(row), c);
+        }
+        c = next(dir, c);
     }
-    walk(book, dir, marks(row.kind), Key::of(row), c)
+    c
 }

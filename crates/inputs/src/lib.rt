@@ -1,19 +1,21 @@
 // The rules of the four kinds of input, decided on the record's own bytes: what breaks one is -103.
 ghost use mathlib.Core.Path.{_≡_};
-ghost use Prim.Native.Nat.{_<_};
+ghost use mathlib.Core.Bool.{cond};
 ghost use lib.ListN.{length};
 ghost use Rattle.laws.specs.Search.{every};
 ghost use Rattle.record.specs.Grid.{decode};
-ghost use Rattle.rules.specs.Rules.{feedInput, lookupInput, obeys, orderInput, resultInput, shapeOf};
+ghost use Rattle.rules.specs.Rules.{feedInput, lookupInput, orderInput, resultInput};
 ghost use Rattle.model.specs.Rows.{rows};
 use kinds::inputs::FeedInput;
 use kinds::inputs::LookupInput;
 use kinds::inputs::OrderInput;
 use kinds::inputs::ResultInput;
-use kinds::limits::Rule;
 use places::place::row_at;
 use record::row::Grid;
 use record::row::Row;
+use rules::limited::in_limits;
+use rules::obey::Spelt;
+use rules::obey::beyond;
 use rules::obey::obeys;
 
 fn order(r: Row) -> bool
@@ -42,15 +44,37 @@ pub fn is_result(part: &[u8]) -> bool
     result(Row::read(part))
 }
 
-// Every record of an input obeys the rule.
-fn all(input: &[u8], rule: Rule) -> bool
-    requires { ⌜ (rule .beyond .m1 < 9223372036854775808) × (rule .beyond .n1n2 < 2147483648) ⌝ }
-    ensures { λ b. ⌜ b ≡ every (obeys (shapeOf rule)) (rows (now (input .entry))) ⌝ }
+fn feed(r: Row) -> bool
+    ensures { λ b. ⌜ b ≡ feedInput r ⌝ }
+{
+    obeys(r, FeedInput::RULE)
+}
+
+// The two parts of the rule by themselves, and not by `obeys`: there are up to twenty entries, and a rule that is at hand
+// as a constant is decided in a third of the time.
+fn lookup(r: Row) -> bool
+    ensures { λ b. ⌜ b ≡ lookupInput r ⌝ }
+{
+    let rule = LookupInput::RULE;
+    let t = in_limits(r, rule.limits);
+    beyond(t, r, rule.beyond, Spelt::A)
+}
+
+// An entry of a lookup or of a feed.
+fn entry(lookups: bool, r: Row) -> bool
+    ensures { λ b. ⌜ b ≡ cond lookups (lookupInput r) (feedInput r) ⌝ }
+{
+    if lookups { lookup(r) } else { feed(r) }
+}
+
+// Every record of an input is such an entry.
+fn all(lookups: bool, input: &[u8]) -> bool
+    ensures { λ b. ⌜ b ≡ every (λ r. cond lookups (lookupInput r) (feedInput r)) (rows (now (input .entry))) ⌝ }
 {
     let n = input.len() / Grid::SIZE;
     let mut i = 0;
     while i < n {
-        if obeys(row_at(input, i), rule) {
+        if entry(lookups, row_at(input, i)) {
             i += 1;
         } else {
             return false;
@@ -62,11 +86,11 @@ fn all(input: &[u8], rule: Rule) -> bool
 pub fn all_feed(input: &[u8]) -> bool
     ensures { λ b. ⌜ b ≡ every feedInput (rows (now (input .entry))) ⌝ }
 {
-    all(input, FeedInput::RULE)
+    all(false, input)
 }
 
 pub fn all_lookup(input: &[u8]) -> bool
     ensures { λ b. ⌜ b ≡ every lookupInput (rows (now (input .entry))) ⌝ }
 {
-    all(input, LookupInput::RULE)
+    all(true, input)
 }

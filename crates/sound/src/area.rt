@@ -9,7 +9,7 @@ pub struct Small {}
 impl Small {
     pub const RECORDS: usize = 127;
 
-    pub const CELLS: usize = 256;
+    pub const CELLS: usize = 512;
 
     pub const LINKS: usize = Links::HEADS + Small::RECORDS;
 
@@ -21,7 +21,7 @@ pub struct Middle {}
 impl Middle {
     pub const RECORDS: usize = 1_023;
 
-    pub const CELLS: usize = 2_048;
+    pub const CELLS: usize = 4_096;
 
     pub const LINKS: usize = Links::HEADS + Middle::RECORDS;
 
@@ -34,7 +34,7 @@ pub struct Large {}
 impl Large {
     pub const RECORDS: usize = Ranges::RECORDS;
 
-    pub const CELLS: usize = 16_384;
+    pub const CELLS: usize = 32_768;
 
     pub const LINKS: usize = Links::HEADS + Large::RECORDS;
 

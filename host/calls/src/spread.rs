@@ -15,7 +15,7 @@ use std::collections::{BTreeMap, BTreeSet};
 const SOURCE: &str = include_str!("../../../crates/chains/src/group.rt");
 const WORD: u64 = 1 << 32;
 /// The most records of a book, by the heads of its directory. The last head is that of the free rows.
-const SIZES: [(usize, u64); 3] = [(64, 128), (512, 1_024), (MAX_RECORDS, 8_192)];
+const SIZES: [(usize, u64); 3] = [(64, 256), (512, 2_048), (MAX_RECORDS, 16_384)];
 /// So many groups may share a bucket. Chance alone puts five or six of 4,096 together.
 const LONGEST: usize = 7;
 /// The kinds that have a trade's number in `id`.

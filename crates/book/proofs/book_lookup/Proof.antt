@@ -29,7 +29,7 @@ looked-requires c κs =
     right-lengths (args .answer .now) (2 * length (args .input .now)) (sized .before .whole .ensures) (sized .if1 .left)
     in
     let few = c .before .before .if2 .taken in
-    (room _ 256 _ (records .records .ensures) (λ n. omega arith) (omega arith), (long .1, long .2))
+    (room _ 512 _ (records .records .ensures) (λ n. omega arith) (omega arith), (long .1, long .2))
 
 looked-requires-2 : tie.Need-looked-requires-2
 looked-requires-2 c κs =
@@ -40,7 +40,7 @@ looked-requires-2 c κs =
     right-lengths (args .answer .now) (2 * length (args .input .now)) (sized .before .whole .ensures) (sized .if1 .left)
     in
     let few = c .before .before .if3 .taken in
-    (room _ 2048 _ (records .records .ensures) (λ n. omega arith) (omega arith), (long .1, long .2))
+    (room _ 4096 _ (records .records .ensures) (λ n. omega arith) (omega arith), (long .1, long .2))
 
 looked-requires-3 : tie.Need-looked-requires-3
 looked-requires-3 c κs =
@@ -50,7 +50,7 @@ looked-requires-3 c κs =
     let long =
     right-lengths (args .answer .now) (2 * length (args .input .now)) (sized .before .whole .ensures) (sized .if1 .left)
     in
-    (room _ 16384 _ (records .records .ensures) (λ n. omega arith) (omega arith), (long .1, long .2))
+    (room _ 32768 _ (records .records .ensures) (λ n. omega arith) (omega arith), (long .1, long .2))
 
 pub book-lookup-spec : {M : Type 1} → statement M
 book-lookup-spec =

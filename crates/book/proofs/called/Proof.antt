@@ -21,7 +21,7 @@ within-requires c κs =
     let args = sized .before .before .before .before .before .args in
     let long = right-lengths (args .answer .now) 64 (sized .before .long .ensures) (sized .if1 .left) in
     let few = c .before .before .before .if2 .taken in
-    (room _ 256 _ (records .records .ensures) (λ n. omega arith) (omega arith), (long .1, long .2))
+    (room _ 512 _ (records .records .ensures) (λ n. omega arith) (omega arith), (long .1, long .2))
 
 within-requires-2 : tie.Need-within-requires-2
 within-requires-2 c κs =
@@ -30,7 +30,7 @@ within-requires-2 c κs =
     let args = sized .before .before .before .before .before .args in
     let long = right-lengths (args .answer .now) 64 (sized .before .long .ensures) (sized .if1 .left) in
     let few = c .before .before .before .if3 .taken in
-    (room _ 2048 _ (records .records .ensures) (λ n. omega arith) (omega arith), (long .1, long .2))
+    (room _ 4096 _ (records .records .ensures) (λ n. omega arith) (omega arith), (long .1, long .2))
 
 within-requires-3 : tie.Need-within-requires-3
 within-requires-3 c κs =
@@ -38,7 +38,7 @@ within-requires-3 c κs =
     let sized = records .before .before in
     let args = sized .before .before .before .before .before .args in
     let long = right-lengths (args .answer .now) 64 (sized .before .long .ensures) (sized .if1 .left) in
-    (room _ 16384 _ (records .records .ensures) (λ n. omega arith) (omega arith), (long .1, long .2))
+    (room _ 32768 _ (records .records .ensures) (λ n. omega arith) (omega arith), (long .1, long .2))
 
 pub called-spec : {M : Type 1} → statement M
 called-spec =

@@ -74,9 +74,9 @@ fn lent<T>(area: &[T]) -> Lent {
 fn directory(book: &[u8]) -> (Vec<u16>, Totals) {
     let records = book.len() / RECORD;
     let cells = match records {
-        0..=127 => 256,
-        128..=1_023 => 2_048,
-        _ => 16_384,
+        0..=127 => 512,
+        128..=1_023 => 4_096,
+        _ => 32_768,
     };
     let (dir, mut totals) = (vec![records as u16; cells], [0; 2]);
     // SAFETY: the book has at most 4,096 records, and all cells of the directory hold their number.

@@ -1,53 +1,92 @@
--- Where the row's own link leads past the end there is none; else a walk that begins there passes over no row of its
--- key. Assumes nothing.
+-- The invariant: the plain search has come to place c, and the row there is in the bucket of the key. A row of another
+-- kind does not have the key, so that its link may be followed; a walk from the first row of the kind passes over no row
+-- of the key. The measure is the number of places left. Assumes nothing.
 use mathlib.Core.Path.{refl, _∙_}
-use Rattle.directory.specs.Listed.{at-next, from-next, key-grouped, own-group, own-key, probe-next, probe-none}
+use Prim.Native.Nat.{_+_, _-_}
+use lib.ListN.{drop}
+use Rattle.laws.specs.Search.{seek}
+use Rattle.keys.specs.Key.{keyOf}
+use Rattle.model.specs.Rows.{hasKey, rows}
+use Rattle.chains.specs.Group.{keyGroup}
+use Rattle.directory.specs.Listed.{Probed, key-grouped, other-kind, own-group, own-key, probe-more, probe-next}
+use Rattle.directory.specs.Listed.{probed-bucket, probed-walk, walks}
 use Rattle.directory.specs.Marked.{own-marked}
 use borrow.Author.Needs.{needs}
+use borrow.Author.Tests.{ne-eqb}
 use Rattle.directory.proofs.find.again.Statement.{statement}
 use Rattle.directory.proofs.find.again.Tie as tie
 
-returns : tie.Need-returns
-returns c =
-    let link = c .before in
-    let entry = link .before .before .before in
-    let start = entry .pre in
-    let row = start .1 in
-    let r = entry .args .row in
-    let group = own-group r (row .2) refl _ _ (row .1) in
-    probe-none (probe-next (start .0) (key-grouped _ (own-key r (row .2) refl)) group (row .0)
-    (link .next .ensures))
-    (c .if1 .taken)
+abbrev Inv-loop : tie.InvT-loop
+Inv-loop book dir i row n c₀ c =
+    Probed (hasKey (keyOf row)) (keyGroup (keyOf row)) book dir
+    (seek (hasKey (keyOf row)) (i + 1) (drop (i + 1) (rows book))) c
 
-walk-requires : tie.Need-walk-requires
+abbrev μ-loop : tie.MeasureT-loop
+μ-loop book dir i row n c₀ c = n - c
+
+next-requires : tie.Need-next-requires Inv-loop μ-loop
+next-requires c κs = search needs
+
+loop-holds : tie.Need-loop-holds Inv-loop μ-loop
+loop-holds c =
+    let entry = c .before .before .before in
+    let row = entry .pre .1 in
+    let r = entry .args .row in
+    probe-next (entry .pre .0) (key-grouped _ (own-key r (row .2) refl)) (own-group r (row .2) refl _ _ (row .1))
+    (row .0) (c .next .ensures)
+
+row-at-requires : tie.Need-row-at-requires Inv-loop μ-loop
+row-at-requires c κs = search needs
+
+marks-requires : tie.Need-marks-requires Inv-loop μ-loop
+marks-requires c κs = search needs
+
+of-requires : tie.Need-of-requires Inv-loop μ-loop
+of-requires c κs = search needs
+
+walk-requires : tie.Need-walk-requires Inv-loop μ-loop
 walk-requires c κs =
-    let link = c .before .before .before in
-    let entry = link .before .before .before in
+    let at-row = c .before .before .before .before .before in
+    let at-loop = at-row .before .before in
+    let entry = at-loop .before .before .before .before in
     let s = entry .pre .0 in
     let row = entry .pre .1 in
     let r = entry .args .row in
-    let of = c .of .ensures in
-    let group = own-group r (row .2) of _ _ (row .1) in (
+    let of = c .of .ensures in (
       s,
       (
         own-marked r of (c .before .marks .ensures),
-        (own-key r (row .2) of, at-next s _ group (row .0) (link .next .ensures)),
+        (own-key r (row .2) of, probed-bucket r (row .2) of (at-loop .loop .inv)),
       ),
     )
 
-returns-2 : tie.Need-returns-2
-returns-2 c =
-    let link = c .before .before .before .before in
-    let entry = link .before .before .before in
-    let s = entry .pre .0 in
-    let row = entry .pre .1 in
-    let r = entry .args .row in
-    let of = c .before .of .ensures in
-    let k = key-grouped _ (own-key r (row .2) of) in
-    let group = own-group r (row .2) of _ _ (row .1) in
-    from-next s k group (row .0) (link .next .ensures) (c .walk .ensures) ∙ rw of
+returns : tie.Need-returns Inv-loop μ-loop
+returns c =
+    let at-row = c .before .before .before .before .before .before in
+    let at-loop = at-row .before .before in
+    let entry = at-loop .before .before .before .before in
+    probed-walk (entry .args .row) (entry .pre .1 .2) (c .before .of .ensures) (at-loop .loop .inv)
+    (c .walk .ensures)
+
+next-requires-2 : tie.Need-next-requires-2 Inv-loop μ-loop
+next-requires-2 c κs = search needs
+
+loop-less : tie.Need-loop-less Inv-loop μ-loop
+loop-less c = search (needs, walks)
+
+loop-again : tie.Need-loop-again Inv-loop μ-loop
+loop-again c =
+    let at-row = c .before .before .before .before in
+    let at-loop = at-row .before .before in
+    let entry = at-loop .before .before .before .before in
+    probe-more (at-loop .loop .inv) (entry .pre .0) (search needs) (at-row .row-at .ensures) refl
+    (other-kind _ _ (ne-eqb _ _ (c .before .if1 .left))) (c .next2 .ensures)
+
+returns-2 : tie.Need-returns-2 Inv-loop μ-loop
+returns-2 c = search (needs, walks)
 
 pub again-spec : {M : Type 1} → statement M
 again-spec =
     tie.close
-    (tie.spec (λ c κs. search needs) returns (λ c κs. search needs) (λ c κs. search needs) walk-requires returns-2)
+    (tie.spec Inv-loop μ-loop next-requires loop-holds row-at-requires marks-requires of-requires walk-requires returns
+    next-requires-2 loop-less loop-again returns-2)

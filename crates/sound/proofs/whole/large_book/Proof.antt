@@ -13,7 +13,7 @@ narrow-requires c κs =
 build-requires : tie.Need-build-requires
 build-requires c κs =
     let few = c .before .before .before .pre in
-    (omega arith, blank-of _ 16384 _ (c .before .narrow .ensures) (omega arith) (omega arith))
+    (omega arith, blank-of _ 32768 _ (c .before .narrow .ensures) (omega arith) (omega arith))
 
 large-requires : tie.Need-large-requires
 large-requires c κs = c .before .before .build .ensures .listed

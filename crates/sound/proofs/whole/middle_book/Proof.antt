@@ -13,7 +13,7 @@ narrow-requires c κs =
 build-requires : tie.Need-build-requires
 build-requires c κs =
     let few = c .before .before .before .pre in
-    (omega arith, blank-of _ 2048 _ (c .before .narrow .ensures) (omega arith) (omega arith))
+    (omega arith, blank-of _ 4096 _ (c .before .narrow .ensures) (omega arith) (omega arith))
 
 middle-requires : tie.Need-middle-requires
 middle-requires c κs =

@@ -13,7 +13,7 @@ narrow-requires c κs =
 build-requires : tie.Need-build-requires
 build-requires c κs =
     let few = c .before .before .before .pre in
-    (omega arith, blank-of _ 256 _ (c .before .narrow .ensures) (omega arith) (omega arith))
+    (omega arith, blank-of _ 512 _ (c .before .narrow .ensures) (omega arith) (omega arith))
 
 small-requires : tie.Need-small-requires
 small-requires c κs =
