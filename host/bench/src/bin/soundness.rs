@@ -5,16 +5,25 @@
 
 use bench::yardstick::Yardstick;
 use bench::SIZES;
+use second::calls::BAD_INPUT;
 use second::gen;
 use second::mutate;
+use second::record::RECORD;
 use second::rng::Rng;
 use second::sound::{self, Rule};
 use std::hint::black_box;
 use std::time::{Duration, Instant};
 
 extern "C" {
-    /// The status of a book, of crates/book_status: C passes a slice as a pointer and a length.
-    fn book_status(book: *const u8, length: usize) -> i32;
+    /// As include/book.h declares it: C passes a slice as a pointer and a length.
+    fn book_lookup(
+        book: *const u8,
+        book_len: usize,
+        input: *const u8,
+        input_len: usize,
+        answer: *mut u8,
+        answer_len: usize,
+    ) -> i32;
 }
 
 const BOOKS: usize = 20;
@@ -22,9 +31,17 @@ const ROUNDS: usize = 51;
 /// A measurement repeats what it measures for about so long, as the clock is coarse.
 const SPAN: Duration = Duration::from_micros(200);
 
+/// The status of a book, by a lookup whose input is no lookup's: the book is checked first, and then the input is refused.
 fn proved_status(book: &[u8]) -> i32 {
-    // SAFETY: the pointer and the length are those of a slice, which the function only reads.
-    unsafe { book_status(book.as_ptr(), book.len()) }
+    let (input, mut answer) = ([0; RECORD], [0; 2 * RECORD]);
+    let (a, b, c) = (book.len(), input.len(), answer.len());
+    // SAFETY: the pointers and lengths are those of slices that are borrowed until the call returns.
+    let status =
+        unsafe { book_lookup(book.as_ptr(), a, input.as_ptr(), b, answer.as_mut_ptr(), c) };
+    match status {
+        BAD_INPUT => 0,
+        other => other,
+    }
 }
 
 /// What the checks work in besides the book: as much room as it takes, and the yardstick's areas.
