@@ -17,8 +17,7 @@ use directory::typed::trade;
 use kinds::inputs::LookupInput;
 use model::Status;
 use places::place::part;
-use places::place::row_at;
-use places::put::put;
+use places::put::put_from;
 use record::row::Grid;
 use record::row::places;
 use reply::also;
@@ -79,8 +78,8 @@ fn answer_one(book: &[u8], dir: &[u16], no: TradeNo, answer: &mut [u8], i: usize
     ensures { λ _. ⌜ Answers (now (book .entry)) (no .0) i (now (answer .entry)) (now (answer .exit)) ⌝ }
 {
     let first = i * 2;
-    put(answer, first, row_at(book, trade(book, dir, no)));
-    put(answer, first + 1, row_at(book, settlement(book, dir, no)));
+    put_from(answer, first, book, trade(book, dir, no));
+    put_from(answer, first + 1, book, settlement(book, dir, no));
 }
 
 // The trade row and the settlement row of each record, in turn.
