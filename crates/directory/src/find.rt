@@ -55,8 +55,8 @@ pub fn walk(book: &[u8], dir: &[u16], m: Marks, key: Key, from: usize) -> usize
     c
 }
 
-// The next place after i with the key of the row at i, the number of places where there is none. Most rows that share a
-// bucket are of two kinds, so that the key is made for the first row of the same kind, and for most not at all.
+// The next place after i with the key of the row at i, the number of places where there is none. Rows that share a bucket
+// are mostly of different kinds: the key is made at the first one of the same kind, and mostly not at all.
 pub fn again(book: &[u8], dir: &[u16], i: usize, row: Row) -> usize
     requires { ⌜ Listed (now book) (now dir) ⌝ }
     requires { ⌜ (i < places (now book)) × (row ≡ rowAt (now book) i) × (apart (row .kind) ≡ false) ⌝ }

@@ -44,8 +44,8 @@ pub fn is_result(part: &[u8]) -> bool
     result(Row::read(part))
 }
 
-// Of these inputs there are up to twenty entries. So their rules are asked for in their two parts, and not by `obeys`: a rule
-// that is at hand as a constant takes a third of the time.
+// These inputs have up to twenty entries. So their rules are asked for in their two parts, and not by `obeys`: a rule that
+// is at hand as a constant takes some 125 instructions less.
 fn feed(r: Row) -> bool
     ensures { λ b. ⌜ b ≡ feedInput r ⌝ }
 {

@@ -24,9 +24,6 @@ Inv-loop book dir i row n c₀ c =
 abbrev μ-loop : tie.MeasureT-loop
 μ-loop book dir i row n c₀ c = n - c
 
-next-requires : tie.Need-next-requires Inv-loop μ-loop
-next-requires c κs = search needs
-
 loop-holds : tie.Need-loop-holds Inv-loop μ-loop
 loop-holds c =
     let entry = c .before .before .before in
@@ -34,15 +31,6 @@ loop-holds c =
     let r = entry .args .row in
     probe-next (entry .pre .0) (key-grouped _ (own-key r (row .2) refl)) (own-group r (row .2) refl _ _ (row .1))
     (row .0) (c .next .ensures)
-
-row-at-requires : tie.Need-row-at-requires Inv-loop μ-loop
-row-at-requires c κs = search needs
-
-marks-requires : tie.Need-marks-requires Inv-loop μ-loop
-marks-requires c κs = search needs
-
-of-requires : tie.Need-of-requires Inv-loop μ-loop
-of-requires c κs = search needs
 
 walk-requires : tie.Need-walk-requires Inv-loop μ-loop
 walk-requires c κs =
@@ -68,12 +56,6 @@ returns c =
     probed-walk (entry .args .row) (entry .pre .1 .2) (c .before .of .ensures) (at-loop .loop .inv)
     (c .walk .ensures)
 
-next-requires-2 : tie.Need-next-requires-2 Inv-loop μ-loop
-next-requires-2 c κs = search needs
-
-loop-less : tie.Need-loop-less Inv-loop μ-loop
-loop-less c = search (needs, walks)
-
 loop-again : tie.Need-loop-again Inv-loop μ-loop
 loop-again c =
     let at-row = c .before .before .before .before in
@@ -82,11 +64,9 @@ loop-again c =
     probe-more (at-loop .loop .inv) (entry .pre .0) (search needs) (at-row .row-at .ensures) refl
     (other-kind _ _ (ne-eqb _ _ (c .before .if1 .left))) (c .next2 .ensures)
 
-returns-2 : tie.Need-returns-2 Inv-loop μ-loop
-returns-2 c = search (needs, walks)
-
 pub again-spec : {M : Type 1} → statement M
 again-spec =
     tie.close
-    (tie.spec Inv-loop μ-loop next-requires loop-holds row-at-requires marks-requires of-requires walk-requires returns
-    next-requires-2 loop-less loop-again returns-2)
+    (tie.spec Inv-loop μ-loop (λ c κs. search needs) loop-holds (λ c κs. search needs) (λ c κs. search needs)
+    (λ c κs. search needs) walk-requires returns (λ c κs. search needs) (λ c. search (needs, walks)) loop-again
+    (λ c. search (needs, walks)))
