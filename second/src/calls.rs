@@ -6,7 +6,8 @@
 use crate::record::*;
 use crate::sound;
 
-// The statuses, in the order in which 01 lists them.
+// The statuses, in the order in which 01 lists them. "-735 and -842 for no band, at the places of
+// -732 and -841, which keep the zero rate" (2026-04).
 pub const WRONG_LENGTH: i32 = -100;
 pub const BOOK_LENGTH: i32 = -101;
 pub const NOT_SOUND: i32 = -102;
@@ -15,11 +16,13 @@ pub const ORDER_NO_ACCOUNT: i32 = -711;
 pub const ORDER_NO_SECURITY: i32 = -712;
 pub const ORDER_NO_TAX: i32 = -731;
 pub const ORDER_NO_RATE: i32 = -732;
+pub const ORDER_NO_BAND: i32 = -735;
 pub const ORDER_NO_CHARGE: i32 = -733;
 pub const RESULT_NO_TRADE: i32 = -811;
 pub const RESULT_NOT_SUBMITTED: i32 = -812;
 pub const RESULT_NO_TAX: i32 = -831;
 pub const RESULT_NO_RATE: i32 = -841;
+pub const RESULT_NO_BAND: i32 = -842;
 pub const FEED_NO_SECURITY: i32 = -311;
 pub const LOOKUP_NO_TRADE: i32 = -611;
 pub const OUT_OF_RANGE: i32 = -104;
@@ -62,10 +65,10 @@ impl Call {
     pub fn statuses(self) -> &'static [i32] {
         match self {
             Call::Order => &[
-                -100, -101, -102, -103, -711, -712, -731, -732, -733, -104, -105, 0,
+                -100, -101, -102, -103, -711, -712, -731, -732, -735, -733, -104, -105, 0,
             ],
             Call::Result => &[
-                -100, -101, -102, -103, -811, -812, -831, -841, -104, -105, 0,
+                -100, -101, -102, -103, -811, -812, -831, -841, -842, -104, -105, 0,
             ],
             Call::Feed => &[-100, -101, -102, -103, -311, -104, -105, 0],
             Call::Lookup => &[-100, -101, -102, -103, -611, 0],
@@ -365,19 +368,30 @@ fn tax_of(book: &Book, account: &Row, walked: &Walked) -> Option<i128> {
     Some(tax_on_gain(gain, rates))
 }
 
-/// The rate "from the one band that holds the shares", for the trade's type, the customer's tier and
-/// the security's exchange; None for "rate 0 or no band".
-fn rate_of(book: &Book, typ: u8, tier: u8, exchange: u8, shares: u32) -> Option<u32> {
+/// What the search for a commission band says: "a rate, a band with rate zero, or no band" (2026-04).
+#[derive(Clone, Copy, Debug, PartialEq, Eq)]
+pub enum BandSearch {
+    /// The band's rate, which is above zero.
+    Rate(u32),
+    /// There is a band, and its rate is zero.
+    ZeroRate,
+    NoBand,
+}
+
+/// Searches "the one band that holds the shares", of the trade's type, the customer's tier and the
+/// security's exchange.
+fn search_band(book: &Book, typ: u8, tier: u8, exchange: u8, shares: u32) -> BandSearch {
     let band = book.find(BAND, |row| {
         row.typ == typ
             && row.status == tier
             && row.flags == exchange
             && row.n1 <= shares
             && shares <= row.n2
-    })?;
-    match book.rows[band].n3 {
-        0 => None,
-        rate => Some(rate),
+    });
+    match band.map(|place| book.rows[place].n3) {
+        None => BandSearch::NoBand,
+        Some(0) => BandSearch::ZeroRate,
+        Some(rate) => BandSearch::Rate(rate),
     }
 }
 
@@ -427,7 +441,11 @@ fn do_order(book: &mut Book, input: &Row) -> Result<Row, i32> {
         price,
     );
     let tax = tax_of(book, &account, &walked).ok_or(ORDER_NO_TAX)?;
-    let rate = rate_of(book, input.typ, tier, exchange, input.n1).ok_or(ORDER_NO_RATE)?;
+    let rate = match search_band(book, input.typ, tier, exchange, input.n1) {
+        BandSearch::Rate(rate) => rate,
+        BandSearch::ZeroRate => return Err(ORDER_NO_RATE),
+        BandSearch::NoBand => return Err(ORDER_NO_BAND),
+    };
     let charge = charge_of(book, input.typ, tier).ok_or(ORDER_NO_CHARGE)?;
     let commission = commission(rate, input.n1, price);
 
@@ -526,8 +544,12 @@ fn do_result(book: &mut Book, input: &Row) -> Result<Row, i32> {
         price,
     );
     let tax = tax_of(book, &account, &walked).ok_or(RESULT_NO_TAX)?;
-    let rate = rate_of(book, trade.typ, customer.typ, security.typ, trade.n1);
-    let commission = commission(rate.ok_or(RESULT_NO_RATE)?, trade.n1, price);
+    let rate = match search_band(book, trade.typ, customer.typ, security.typ, trade.n1) {
+        BandSearch::Rate(rate) => rate,
+        BandSearch::ZeroRate => return Err(RESULT_NO_RATE),
+        BandSearch::NoBand => return Err(RESULT_NO_BAND),
+    };
+    let commission = commission(rate, trade.n1, price);
 
     // "Settlement: a sell, value - charge - commission; a buy, -(value + charge + commission); less
     // tax for tax status 1 only."

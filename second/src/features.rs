@@ -1,7 +1,9 @@
 //! What an accepted call had to do, in words, so that one sees whether random cases do enough; and
-//! why a gain was refused.
+//! why a gain or the search for a band was refused.
 
-use crate::calls::{Call, ORDER_NO_TAX, RESULT_NO_TAX};
+use crate::calls::{
+    Call, ORDER_NO_BAND, ORDER_NO_RATE, ORDER_NO_TAX, RESULT_NO_BAND, RESULT_NO_RATE, RESULT_NO_TAX,
+};
 use crate::record::*;
 
 /// Every feature that random cases should show, even on books of 24 records.
@@ -27,6 +29,7 @@ pub const WANTED: &[(Call, &[&str])] = &[
             "has gain × rates from 2^62 to the largest signed 64-bit number",
             "rolls back",
             "is LIFO",
+            "has a rate beside a band of rate zero",
         ],
     ),
     (
@@ -63,6 +66,7 @@ pub const WANTED: &[(Call, &[&str])] = &[
             "meets lots of equal time",
             "takes the last free place",
             "brings a total to its limit",
+            "has a rate beside a band of rate zero",
         ],
     ),
     (
@@ -83,35 +87,122 @@ pub const WANTED: &[(Call, &[&str])] = &[
 
 const WITHOUT_RATES: &str = "is refused without rates";
 const ZERO_RATES: &str = "is refused with rates of zero";
+const ONE_ZERO_BAND: &str = "is refused with one band, of rate zero";
+const ZERO_BESIDE_RATE: &str = "is refused with a band of rate zero beside one with a rate";
+const NO_BAND_AT_ALL: &str = "is refused with no band at all";
+const OTHER_TYPE: &str = "is refused with a band of another type alone";
+const OTHER_TIER: &str = "is refused with a band of another tier alone";
+const OTHER_EXCHANGE: &str = "is refused with a band of another exchange alone";
+const ONE_BELOW: &str = "is refused one share below a band";
+const ONE_ABOVE: &str = "is refused one share above a band";
+const IN_A_GAP: &str = "is refused in a gap between two bands";
 
-/// The two ways to -731 and -831 that random cases of this call should show: rates sum to zero as
-/// there are none, or none above zero.
-pub fn untaxable(call: Call) -> &'static [&'static str] {
+/// The ways to a refusal that random cases of this call should show. To -731 and -831: rates sum to
+/// zero as there are none, or none above zero. To -732 and -841: a rate of zero. To -735 and -842: no
+/// band.
+pub fn reasons(call: Call) -> &'static [&'static str] {
     match call {
-        Call::Order | Call::Result => &[WITHOUT_RATES, ZERO_RATES],
+        Call::Order | Call::Result => &[
+            WITHOUT_RATES,
+            ZERO_RATES,
+            ONE_ZERO_BAND,
+            ZERO_BESIDE_RATE,
+            NO_BAND_AT_ALL,
+            OTHER_TYPE,
+            OTHER_TIER,
+            OTHER_EXCHANGE,
+            ONE_BELOW,
+            ONE_ABOVE,
+            IN_A_GAP,
+        ],
         Call::Feed | Call::Lookup => &[],
     }
 }
 
-/// Which of them led this call to its status, if it is -731 or -831.
-pub fn of_refusal(call: Call, status: i32, book: &[u8], input: &[u8]) -> Option<&'static str> {
-    if status != ORDER_NO_TAX && status != RESULT_NO_TAX {
-        return None;
-    }
+/// Which of them led this call to its status.
+pub fn of_refusal(call: Call, status: i32, book: &[u8], input: &[u8]) -> Vec<&'static str> {
+    let reasons_of = match status {
+        ORDER_NO_TAX | RESULT_NO_TAX => of_no_tax,
+        ORDER_NO_RATE | RESULT_NO_RATE => of_zero_rate,
+        ORDER_NO_BAND | RESULT_NO_BAND => of_no_band,
+        _ => return Vec::new(),
+    };
     let (rows, input) = (rows_of(book), rows_of(input)[0]);
-    let party = match call {
-        Call::Order => input.party,
+    let trade = match call {
+        Call::Order => input,
         _ => {
             let trade = rows.iter().find(|r| r.kind == TRADE && r.id == input.id);
-            trade.expect("else it is -811").party
+            *trade.expect("else it is -811")
         }
     };
-    let rates = rates_of(&rows, account_of(&rows, party));
-    Some(if rates.is_empty() {
-        WITHOUT_RATES
-    } else {
-        ZERO_RATES
-    })
+    reasons_of(&rows, &trade)
+}
+
+/// The names of what holds.
+fn holding<const N: usize>(list: [(bool, &'static str); N]) -> Vec<&'static str> {
+    let holding = list.into_iter().filter(|(holds, _)| *holds);
+    holding.map(|(_, name)| name).collect()
+}
+
+fn of_no_tax(rows: &[Row], trade: &Row) -> Vec<&'static str> {
+    let without = rates_of(rows, account_of(rows, trade.party)).is_empty();
+    holding([(without, WITHOUT_RATES), (!without, ZERO_RATES)])
+}
+
+fn of_zero_rate(rows: &[Row], trade: &Row) -> Vec<&'static str> {
+    let own = own_bands(rows, trade);
+    holding([
+        (own.len() == 1, ONE_ZERO_BAND),
+        (own.iter().any(|band| band.n3 > 0), ZERO_BESIDE_RATE),
+    ])
+}
+
+/// A band is of another type, tier or exchange alone if it would hold the trade but for that. It
+/// counts where the trade has no band of its own.
+fn of_no_band(rows: &[Row], trade: &Row) -> Vec<&'static str> {
+    let shares = trade.n1;
+    let own = own_bands(rows, trade);
+    let others = |what: [bool; 3]| {
+        let holds = |r: &Row| r.kind == BAND && (r.n1..=r.n2).contains(&shares);
+        let mut bands = rows.iter().filter(|r| holds(r));
+        own.is_empty() && bands.any(|band| agreement(rows, trade, band) == what)
+    };
+    let is_below = |band: &&Row| band.n2 < shares;
+    holding([
+        (rows.iter().all(|r| r.kind != BAND), NO_BAND_AT_ALL),
+        (others([false, true, true]), OTHER_TYPE),
+        (others([true, false, true]), OTHER_TIER),
+        (others([true, true, false]), OTHER_EXCHANGE),
+        (own.iter().any(|band| band.n1 == shares + 1), ONE_BELOW),
+        (own.iter().any(|band| band.n2 + 1 == shares), ONE_ABOVE),
+        (
+            own.iter().any(is_below) && !own.iter().all(is_below),
+            IN_A_GAP,
+        ),
+    ])
+}
+
+/// Whether a band has the trade's type, the customer's tier and the security's exchange.
+fn agreement(rows: &[Row], trade: &Row, band: &Row) -> [bool; 3] {
+    let account = account_of(rows, trade.party);
+    let mut customers = rows.iter().filter(|r| r.kind == CUSTOMER);
+    let customer = customers.find(|r| r.party == account.n2).expect("S3");
+    let mut securities = rows.iter().filter(|r| r.kind == SECURITY);
+    let security = securities.find(|r| r.symbol == trade.symbol);
+    let security = security.expect("S3, or it was looked up");
+    [
+        band.typ == trade.typ,
+        band.status == customer.typ,
+        band.flags == security.typ,
+    ]
+}
+
+/// The bands of the trade's type, tier and exchange, whatever shares they hold.
+fn own_bands<'a>(rows: &'a [Row], trade: &Row) -> Vec<&'a Row> {
+    let bands = rows.iter().filter(|r| r.kind == BAND);
+    bands
+        .filter(|band| agreement(rows, trade, band) == [true; 3])
+        .collect()
 }
 
 fn account_of(rows: &[Row], party: u32) -> &Row {
@@ -140,7 +231,7 @@ fn of_tax(rows: &[Row], account: &Row, gain: i128, tax: u64) -> Vec<&'static str
     let taxed = account.typ != 0;
     let product = gain * i128::from(rates);
     let largest = i128::from(i64::MAX);
-    let list = [
+    holding([
         (gain > 0 && tax > 0, "is taxed"),
         (gain > 0 && !taxed, "has a gain untaxed"),
         (
@@ -175,9 +266,13 @@ fn of_tax(rows: &[Row], account: &Row, gain: i128, tax: u64) -> Vec<&'static str
             taxed && (1 << 62..=largest).contains(&product),
             "has gain × rates from 2^62 to the largest signed 64-bit number",
         ),
-    ];
-    let holding = list.into_iter().filter(|(holds, _)| *holds);
-    holding.map(|(_, name)| name).collect()
+    ])
+}
+
+/// What the search for a band makes of an accepted order or result.
+fn of_band(rows: &[Row], trade: &Row) -> Vec<&'static str> {
+    let zero_beside = own_bands(rows, trade).iter().any(|band| band.n3 == 0);
+    holding([(zero_beside, "has a rate beside a band of rate zero")])
 }
 
 /// The features of this accepted call.
@@ -212,6 +307,7 @@ pub fn of(
                 let gain = i128::from(answer.m2) - i128::from(answer.m1);
                 found.extend(of_tax(&before, account, gain, answer.tax()));
             }
+            found.extend(of_band(&before, input));
         }
         Call::Result => {
             let (input, answer) = (&input[0], &answer[0]);
@@ -287,6 +383,7 @@ pub fn of(
             if !steps.is_empty() {
                 found.extend(of_tax(&before, account, gain, answer.tax()));
             }
+            found.extend(of_band(&before, trade));
         }
         Call::Feed => {
             let answer = &answer[0];

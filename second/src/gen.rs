@@ -4,7 +4,10 @@
 //! which keeps it sound, until its places are used up but for those that shall stay free. Then the
 //! rows are strewn over the places.
 
-use crate::calls::{Call, MAX_ENTRIES, ORDER_NO_TAX, RESULT_NO_TAX};
+use crate::calls::{
+    Call, MAX_ENTRIES, NO_ROOM, ORDER_NO_BAND, ORDER_NO_CHARGE, ORDER_NO_RATE, ORDER_NO_TAX,
+    OUT_OF_RANGE, RESULT_NO_BAND, RESULT_NO_RATE, RESULT_NO_TAX,
+};
 use crate::mutate;
 use crate::record::*;
 use crate::rng::Rng;
@@ -1366,12 +1369,15 @@ fn case_of(rng: &mut Rng, call: Call, records: usize) -> Case {
     }
     // A result has five edges, the others one or two.
     if rng.chance(if call == Call::Result { 30 } else { 15 }) {
-        return to_the_edge(rng, case);
+        case = to_the_edge(rng, case);
+    }
+    if matches!(call, Call::Order | Call::Result) && rng.chance(12) {
+        case = to_other_bands(rng, case);
     }
     case
 }
 
-/// A case before it is changed for a certain gain or moved to an edge.
+/// A case before it is changed for a certain gain or other bands, or moved to an edge.
 fn unmoved_case(rng: &mut Rng, call: Call, records: usize) -> Case {
     let plan = Plan::for_call(rng, call, records);
     let book = book_of(rng, &plan);
@@ -1492,12 +1498,30 @@ pub fn to_the_edge(rng: &mut Rng, mut case: Case) -> Case {
     case
 }
 
-/// An order or a result that is accepted, or refused for its tax, to be changed for another tax.
+/// The statuses of an order or a result that is accepted, or refused for its tax.
+const ASKED_FOR_TAX: [i32; 3] = [0, ORDER_NO_TAX, RESULT_NO_TAX];
+/// Those of one for which nothing is amiss that comes before tax and band.
+const ASKED_FOR_BAND: [i32; 10] = [
+    0,
+    ORDER_NO_TAX,
+    ORDER_NO_RATE,
+    ORDER_NO_BAND,
+    ORDER_NO_CHARGE,
+    RESULT_NO_TAX,
+    RESULT_NO_RATE,
+    RESULT_NO_BAND,
+    OUT_OF_RANGE,
+    NO_ROOM,
+];
+
+/// An order or a result, to be changed for another tax or other bands.
 struct Parts {
     rows: Vec<Row>,
     input: Row,
     /// The order's input itself, or the trade that the result names.
     trade: Row,
+    /// The account's customer.
+    customer: u32,
     /// A rate of the account's customer, if there is one.
     rate: Option<u32>,
 }
@@ -1512,14 +1536,15 @@ struct Terms {
 }
 
 impl Parts {
-    fn of(case: &Case) -> Option<Parts> {
+    /// The parts of a case that has one of these statuses.
+    fn of(case: &Case, statuses: &[i32]) -> Option<Parts> {
         if !matches!(case.call, Call::Order | Call::Result) {
             return None;
         }
         let mut after = case.book.clone();
         let mut answer = case.answer.clone();
         let status = case.call.run(&mut after, &case.input, &mut answer);
-        if ![0, ORDER_NO_TAX, RESULT_NO_TAX].contains(&status) {
+        if !statuses.contains(&status) {
             return None;
         }
         let rows = rows_of(&case.book);
@@ -1543,6 +1568,7 @@ impl Parts {
             rows,
             input,
             trade,
+            customer,
             rate,
         })
     }
@@ -1583,7 +1609,7 @@ impl Parts {
 /// one share with the gain, tax status and rates that decide over -731 and -831. Other cases stay
 /// as they are.
 pub fn to_a_small_gain(rng: &mut Rng, case: Case) -> Case {
-    let Some(parts) = Parts::of(&case) else {
+    let Some(parts) = Parts::of(&case, &ASKED_FOR_TAX) else {
         return case;
     };
     let trade = parts.trade;
@@ -1625,7 +1651,7 @@ pub fn to_a_small_gain(rng: &mut Rng, case: Case) -> Case {
 /// nearly as large as may be and the rates are high: mostly, their product passes the largest
 /// signed 64-bit number (2026-06). None for other cases and for customers without rates.
 pub fn to_a_large_gain(rng: &mut Rng, case: Case) -> Option<Case> {
-    let mut parts = Parts::of(&case)?;
+    let mut parts = Parts::of(&case, &ASKED_FOR_TAX)?;
     let trade = parts.trade;
     let buy = buys(trade.typ);
     let held = |row: &Row| (row.party, row.symbol) == (trade.party, trade.symbol);
@@ -1666,6 +1692,94 @@ pub fn to_a_large_gain(rng: &mut Rng, case: Case) -> Option<Case> {
         rates,
     };
     Some(parts.with(terms, case))
+}
+
+/// Changes the bands in the book of an order or a result that comes as far as tax and band, so that
+/// the search finds no band, one of rate zero, or one with a rate beside such bands (2026-04). Other
+/// refusals may be due too, before it or after it. Other cases stay as they are.
+pub fn to_other_bands(rng: &mut Rng, case: Case) -> Case {
+    let Some(parts) = Parts::of(&case, &ASKED_FOR_BAND) else {
+        return case;
+    };
+    let (mut rows, trade) = (parts.rows, parts.trade);
+    let mut customers = rows.iter().filter(|r| r.kind == CUSTOMER);
+    let customer = customers.find(|r| r.party == parts.customer);
+    let mut securities = rows.iter().filter(|r| r.kind == SECURITY);
+    let security = securities.find(|r| r.symbol == trade.symbol);
+
+    // One band holds these, or none. The trade's shares are often the first or the last of them.
+    let shares = trade.n1;
+    let (mut from, mut to) = (shares, shares);
+    if rng.chance(40) {
+        from = rng.between32(1, shares);
+    }
+    if rng.chance(40) {
+        to = rng.between32(shares, MAX_SHARES);
+    }
+    let holding = Row {
+        kind: BAND,
+        typ: trade.typ,
+        status: customer.expect("S3").typ,
+        flags: security.expect("S3, or else it is -712").typ,
+        n1: from,
+        n2: to,
+        n3: *rng.pick(&[1, 50, 50, MAX_BAND_RATE]),
+        ..Row::default()
+    };
+    let (n1, n2) = (1, from - 1);
+    let below = Row { n1, n2, ..holding };
+    let (n1, n2) = (to + 1, MAX_SHARES);
+    let above = Row { n1, n2, ..holding };
+    let zero = |band: Row| Row { n3: 0, ..band };
+    // Any number of 1..=most but this one.
+    let mut other = |one: u8, most: u8| 1 + (one + rng.below(u64::from(most) - 1) as u8) % most;
+    let (typ, status, flags) = (
+        other(holding.typ, TSL),
+        other(holding.status, 3),
+        other(holding.flags, 4),
+    );
+    let way = rng.below(10);
+    let mut bands = match way {
+        0 => Vec::new(),
+        1 => vec![Row { typ, ..holding }],
+        2 => vec![Row { status, ..holding }],
+        3 => vec![Row { flags, ..holding }],
+        4 => vec![below],
+        5 => vec![above],
+        6 => vec![below, above],
+        7 => vec![zero(holding)],
+        8 => vec![zero(holding), below, above],
+        _ => vec![holding, zero(below), zero(above)],
+    };
+    // There are no shares below the first and none above the last.
+    bands.retain(|band| band.n1 <= band.n2);
+    // Where none holds the shares, a rate of zero beside them must not be taken for theirs.
+    if way <= 6 && rng.chance(25) {
+        bands.iter_mut().for_each(|band| band.n3 = 0);
+    }
+
+    // They take the place of all bands of their type, tier and exchange, and of the trade's; the
+    // first way leaves no band at all. A band that finds no place is left out.
+    let of_one_key = |a: &Row, b: &Row| (a.typ, a.status, a.flags) == (b.typ, b.status, b.flags);
+    let (mut places, mut free) = (Vec::new(), Vec::new());
+    for (place, row) in rows.iter_mut().enumerate() {
+        let mut own = bands.iter().chain([&holding]);
+        if row.kind == BAND && (way == 0 || own.any(|band| of_one_key(row, band))) {
+            *row = Row::default();
+            places.push(place);
+        } else if row.is_free() {
+            free.push(place);
+        }
+    }
+    rng.shuffle(&mut free);
+    places.extend(free);
+    for (place, band) in places.into_iter().zip(bands) {
+        rows[place] = band;
+    }
+    Case {
+        book: bytes_of(&rows),
+        ..case
+    }
 }
 
 /// Nearly the highest price or nearly the lowest.

@@ -55,7 +55,7 @@ fn every_status_is_reached() {
                 let case = gen::case(&mut rng, *call, most);
                 let (status, answer, book) = run(&case);
                 *counts.entry(status).or_default() += 1;
-                if let Some(name) = features::of_refusal(*call, status, &case.book, &case.input) {
+                for name in features::of_refusal(*call, status, &case.book, &case.input) {
                     *found.entry(name).or_default() += 1;
                 }
                 if status == 0 {
@@ -64,7 +64,7 @@ fn every_status_is_reached() {
                     }
                 }
             }
-            for name in wanted.iter().chain(features::untaxable(*call)) {
+            for name in wanted.iter().chain(features::reasons(*call)) {
                 assert!(
                     found.contains_key(name),
                     "{} {name}: {found:?}",
@@ -130,6 +130,56 @@ fn cases_of_a_large_gain() {
         }
         assert_eq!(counts.len(), 2);
         assert!(counts.values().all(|count| *count > 50), "{counts:?}");
+    }
+}
+
+/// Cases changed for other bands are still on a sound book. They meet both refusals of the search for
+/// many reasons, and other refusals are due at the same time.
+#[test]
+fn cases_of_other_bands() {
+    let mut rng = Rng::new(28);
+    for (call, no_tax, later) in [
+        (Call::Order, -731, &[-733, -104, -105, 0][..]),
+        (Call::Result, -831, &[-104, -105, 0]),
+    ] {
+        let mut counts: BTreeMap<&str, u32> = BTreeMap::new();
+        let mut instead: BTreeMap<i32, u32> = BTreeMap::new();
+        let mut still: BTreeMap<i32, u32> = BTreeMap::new();
+        for _ in 0..4_000 {
+            let case = gen::case(&mut rng, call, 40);
+            let before = run(&case).0;
+            let moved = gen::to_other_bands(&mut rng, case.clone());
+            let (status, answer, book) = run(&moved);
+            if moved.book == case.book {
+                continue;
+            }
+            assert_eq!(sound::check(&moved.book), Ok(()));
+            if status == 0 {
+                for name in features::of(call, &moved.book, &book, &moved.input, &answer) {
+                    *counts.entry(name).or_default() += 1;
+                }
+            }
+            let reasons = features::of_refusal(call, status, &moved.book, &moved.input);
+            if matches!(status, -732 | -735 | -841 | -842) {
+                *instead.entry(before).or_default() += 1;
+                for name in reasons {
+                    *counts.entry(name).or_default() += 1;
+                }
+            } else {
+                *still.entry(status).or_default() += 1;
+            }
+        }
+        // The first two are about tax.
+        let wanted = features::reasons(call)[2..].iter();
+        for name in wanted.chain([&"has a rate beside a band of rate zero"]) {
+            assert!(counts.get(name).is_some_and(|n| *n > 30), "{counts:?}");
+        }
+        // -731 and -831 are said first; the others would have been said but for the bands.
+        assert!(still.get(&no_tax).is_some_and(|n| *n > 30), "{still:?}");
+        assert!(!instead.contains_key(&no_tax), "{instead:?}");
+        for status in later {
+            assert!(instead.get(status).is_some_and(|n| *n > 30), "{instead:?}");
+        }
     }
 }
 
@@ -316,7 +366,7 @@ fn roll_back_answers_alike() {
         }
         assert_eq!(answers[0], answers[1]);
     }
-    for status in [0, -731, -732, -733, -104, -105] {
+    for status in [0, -731, -732, -735, -733, -104, -105] {
         assert!(counts.contains_key(&status), "{counts:?}");
     }
 }

@@ -65,7 +65,7 @@ fn the_order_between_accounts_does_not_matter() {
     }
     assert!(compared >= 10_000, "{compared}");
     assert!(with_two_accounts > 5_000, "{with_two_accounts}");
-    for status in [0, -103, -811, -812, -831, -841] {
+    for status in [0, -103, -811, -812, -831, -841, -842] {
         assert!(statuses.contains_key(&status), "{statuses:?}");
     }
 }

@@ -142,7 +142,7 @@ fn runs_are_not_idle() {
     assert!(share("depends") > 50, "{counts:?}");
     assert!(share("walks lots of others") > 10, "{counts:?}");
     assert!(share("own order shows") > 50, "{counts:?}");
-    for status in [0, -103, -811, -812, -831, -841, -104, -105] {
+    for status in [0, -103, -811, -812, -831, -841, -842, -104, -105] {
         assert!(
             statuses.get(&status).is_some_and(|count| *count > 100),
             "{statuses:?}"

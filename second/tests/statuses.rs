@@ -123,20 +123,19 @@ fn nearest(over: i128, under: i128) -> i128 {
     }
 }
 
-/// The rates of the bands that hold these shares; at most one does.
-fn band_rate(rows: &[Row], account: &Row, symbol: [u8; 8], typ: u8, shares: u32) -> u32 {
+/// The band that holds these shares; at most one does.
+fn band_of(rows: &[Row], account: &Row, symbol: [u8; 8], typ: u8, shares: u32) -> Option<Row> {
     let tier = the(rows, |r| r.kind == CUSTOMER && r.party == account.n2)
         .unwrap()
         .typ;
     let exchange = the(rows, |r| r.kind == SECURITY && r.symbol == symbol)
         .unwrap()
         .typ;
-    let band = the(rows, |r| {
+    the(rows, |r| {
         r.kind == BAND
             && (r.typ, r.status, r.flags) == (typ, tier, exchange)
             && (r.n1..=r.n2).contains(&shares)
-    });
-    band.map_or(0, |row| row.n3)
+    })
 }
 
 fn first_of(conditions: &[(i32, bool)]) -> i32 {
@@ -162,12 +161,11 @@ fn order_status(rows: &[Row], input: &Row) -> i32 {
     let charge = the(rows, |r| {
         (r.kind, r.typ, r.status) == (CHARGE, input.typ, tier)
     });
+    let band = band_of(rows, &account, input.symbol, input.typ, input.n1);
     first_of(&[
         (-731, taxed && rates(rows, &account) == 0),
-        (
-            -732,
-            band_rate(rows, &account, input.symbol, input.typ, input.n1) == 0,
-        ),
+        (-732, band.is_some_and(|row| row.n3 == 0)),
+        (-735, band.is_none()),
         (-733, charge.is_none_or(|row| row.n1 == 0)),
         (
             -104,
@@ -195,9 +193,10 @@ fn result_status(rows: &[Row], input: &Row) -> i32 {
     } else {
         0
     };
-    let rate = band_rate(rows, &account, trade.symbol, trade.typ, trade.n1);
+    let band = band_of(rows, &account, trade.symbol, trade.typ, trade.n1);
     let value = i128::from(trade.n1) * i128::from(input.n1);
-    let commission = nearest(i128::from(rate) * value, 10_000);
+    // Nonsense without a band, which is asked about before it counts.
+    let commission = nearest(band.map_or(0, |row| row.n3.into()) * value, 10_000);
     let buy = trade.typ == TMB || trade.typ == TLB;
     let amount = if buy { -value } else { value }
         - i128::from(trade.n4)
@@ -215,7 +214,8 @@ fn result_status(rows: &[Row], input: &Row) -> i32 {
         + if cash { 3 } else { 2 };
     first_of(&[
         (-831, taxed && rates(rows, &account) == 0),
-        (-841, rate == 0),
+        (-841, band.is_some_and(|row| row.n3 == 0)),
+        (-842, band.is_none()),
         (-104, balance.abs() > most),
         (-104, broker.n1 == 999_999_999),
         (-104, i128::from(broker.m1) + commission > most),

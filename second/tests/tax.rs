@@ -185,10 +185,15 @@ fn tax_status_zero_is_not_refused() {
 fn other_refusals_follow() {
     type Break = fn(&mut Vec<Row>);
     let no_band: Break = |rows| rows.retain(|row| row.kind != BAND);
+    let zero_rate: Break = |rows| {
+        let bands = rows.iter_mut().filter(|row| row.kind == BAND);
+        bands.for_each(|row| row.n3 = 0);
+    };
     let no_charge: Break = |rows| rows.retain(|row| row.kind != CHARGE);
     let no_room: Break = |rows| rows.retain(|row| !row.is_free());
     let breaks = [
-        (no_band, -732, -841),
+        (no_band, -735, -842),
+        (zero_rate, -732, -841),
         (no_charge, -733, 0),
         (no_room, -105, -105),
     ];

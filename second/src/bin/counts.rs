@@ -1,6 +1,6 @@
 //! `counts SEED COUNT [RECORDS]`: runs COUNT random cases of each call on books of at most RECORDS
-//! records, and prints how often each status came, why gains were refused, and what the accepted
-//! calls had to do.
+//! records, and prints how often each status came, why gains and bands were refused, and what the
+//! accepted calls had to do.
 
 use second::calls::Call;
 use second::features;
@@ -28,7 +28,7 @@ fn main() {
         for status in call.statuses() {
             println!("  {:>6}  {status}", statuses.get(status).unwrap_or(&0));
         }
-        for name in features::untaxable(*call).iter().chain(*wanted) {
+        for name in features::reasons(*call).iter().chain(*wanted) {
             println!("  {:>6}  {name}", found.get(name).unwrap_or(&0));
         }
     }
@@ -50,7 +50,7 @@ fn count_cases(
         let mut answer = case.answer.clone();
         let status = call.run(&mut book, &case.input, &mut answer);
         *statuses.entry(status).or_default() += 1;
-        if let Some(name) = features::of_refusal(call, status, &case.book, &case.input) {
+        for name in features::of_refusal(call, status, &case.book, &case.input) {
             *found.entry(name).or_default() += 1;
         }
         if status == 0 {

@@ -4,8 +4,8 @@ use super::grid::{is_time, is_trade_number, put, within, Record, Row};
 use super::sound::{band_key, BAND_PLACE, NO_LOT};
 use super::{pair, Yardstick};
 use second::calls::{
-    BAD_INPUT, NO_ROOM, OUT_OF_RANGE, RESULT_NOT_SUBMITTED, RESULT_NO_RATE, RESULT_NO_TAX,
-    RESULT_NO_TRADE, WRONG_LENGTH,
+    BandSearch, BAD_INPUT, NO_ROOM, OUT_OF_RANGE, RESULT_NOT_SUBMITTED, RESULT_NO_BAND,
+    RESULT_NO_RATE, RESULT_NO_TAX, RESULT_NO_TRADE, WRONG_LENGTH,
 };
 use second::record::*;
 
@@ -132,10 +132,11 @@ impl Yardstick {
             // Below 10 to the 19: 999,999 shares, 99,999,999 cents, 100,000 of a rate.
             tax = (gain as u64 * rates + 50_000) / 100_000;
         }
-        let rate = self.rate(rows, [trade.typ(), tier, exchange], trade.n1());
-        if rate == 0 {
-            return Err(RESULT_NO_RATE);
-        }
+        let rate = match self.search_band(rows, [trade.typ(), tier, exchange], trade.n1()) {
+            BandSearch::Rate(rate) => rate,
+            BandSearch::ZeroRate => return Err(RESULT_NO_RATE),
+            BandSearch::NoBand => return Err(RESULT_NO_BAND),
+        };
         let value = shares * price;
         let commission = (u64::from(rate) * value as u64 + 5_000) / 10_000;
         let fees = i64::from(trade.n4()) + commission as i64;
@@ -199,8 +200,13 @@ impl Yardstick {
         }
     }
 
-    /// The rate of the band of this type, tier and exchange that holds the shares, or 0.
-    fn rate(&self, rows: &[Record], [typ, tier, exchange]: [u8; 3], shares: u32) -> u32 {
+    /// Searches the band of this type, tier and exchange that holds the shares.
+    fn search_band(
+        &self,
+        rows: &[Record],
+        [typ, tier, exchange]: [u8; 3],
+        shares: u32,
+    ) -> BandSearch {
         let head = u64::from(u32::from_le_bytes([BAND, typ, tier, exchange]));
         let key = band_key(head, shares) | BAND_PLACE;
         // The last band that is not above: of these three, the one that begins last before the shares.
@@ -209,13 +215,15 @@ impl Yardstick {
             .partition_point(|band| *band <= key)
             .checked_sub(1)
         else {
-            return 0;
+            return BandSearch::NoBand;
         };
         let band = Row::of(&rows[(self.bands[last] & BAND_PLACE) as usize]);
-        if band.head() == head && shares <= band.n2() {
-            band.n3()
-        } else {
-            0
+        if band.head() != head || shares > band.n2() {
+            return BandSearch::NoBand;
+        }
+        match band.n3() {
+            0 => BandSearch::ZeroRate,
+            rate => BandSearch::Rate(rate),
         }
     }
 

@@ -3,9 +3,10 @@
 //! wins.
 
 use crate::database::{Database, Statement, Value};
-use second::calls::{commission, tax_on_gain};
+use second::calls::{commission, tax_on_gain, BandSearch};
 use second::calls::{
-    OUT_OF_RANGE, RESULT_NOT_SUBMITTED, RESULT_NO_RATE, RESULT_NO_TAX, RESULT_NO_TRADE,
+    OUT_OF_RANGE, RESULT_NOT_SUBMITTED, RESULT_NO_BAND, RESULT_NO_RATE, RESULT_NO_TAX,
+    RESULT_NO_TRADE,
 };
 use second::record::{buys, Row, CMPT, DUE_AFTER, RESULT_INPUT, SBMT};
 use Value::{Number, Symbol};
@@ -242,12 +243,12 @@ impl<'a> Posting<'a> {
         let [tier] = self
             .one(&self.tier, &[Number(customer)])
             .expect("the account's customer");
-        let band = [tier, typ, exchange, shares, shares].map(Number);
-        let rate = self.one(&self.rate, &band).map_or(0, |[rate]| rate);
-        if rate == 0 {
-            return Err(RESULT_NO_RATE);
-        }
-        let fee = commission(rate as u32, shares as u32, price as u32) as i64;
+        let rate = match self.search_band(tier, typ, exchange, shares) {
+            BandSearch::Rate(rate) => rate,
+            BandSearch::ZeroRate => return Err(RESULT_NO_RATE),
+            BandSearch::NoBand => return Err(RESULT_NO_BAND),
+        };
+        let fee = commission(rate, shares as u32, price as u32) as i64;
 
         // Frame 5: the trade and the broker.
         let completed = i64::from(CMPT);
@@ -293,6 +294,16 @@ impl<'a> Posting<'a> {
             m2: amount as u64,
             ..Row::default()
         })
+    }
+
+    /// Searches the band of this tier, type and exchange that holds the shares.
+    fn search_band(&self, tier: i64, typ: i64, exchange: i64, shares: i64) -> BandSearch {
+        let values = [tier, typ, exchange, shares, shares].map(Number);
+        match self.one(&self.rate, &values) {
+            None => BandSearch::NoBand,
+            Some([0]) => BandSearch::ZeroRate,
+            Some([rate]) => BandSearch::Rate(rate as u32),
+        }
     }
 
     /// The lots that a trade of so many shares meets, in order. They are read before any is changed, as SQLite does
