@@ -17,6 +17,7 @@ use Rattle.record.specs.Symbol.{symbolNumber}
 use Rattle.record.specs.declared.row.Row.{Row}
 use Rattle.rules.specs.Ranges.{form, id, kind, m2, n1, n2, symbol}
 use Rattle.model.specs.Status.{isDone}
+use Rattle.model.specs.Band.{commissionRate, rated}
 use Rattle.model.specs.Call.{Reply, aResult, fieldsOf, lengthsOf, resultCall, run, shell}
 use Rattle.model.specs.Edit.{_≔_, changed, new}
 use Rattle.model.specs.Evaluate.{resultOpened}
@@ -98,7 +99,7 @@ lotsOfAll =
       account = v .account;
       summary = v .summary;
       rates = v .rates;
-      rate = v .rate;
+      band = v .band;
       lots = sort (before (lifo (t .flags))) (keep (λ r. closes (t .form) (r .party) (t .symbol) r) rs);
     })
 
@@ -113,7 +114,7 @@ risingRate =
       account = v .account;
       summary = v .summary;
       rates = v .rates;
-      rate = v .rate + found (aBroker (v .account .n1)) rs .n1;
+      band = rated (commissionRate (v .band) + found (aBroker (v .account .n1)) rs .n1);
       lots = v .lots;
     })
 

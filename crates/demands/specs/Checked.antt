@@ -29,8 +29,8 @@ use Rattle.facts.specs.Status.{one-status}
 use Rattle.facts.specs.Checks.{decided-status}
 use Rattle.preserved.specs.Cases.{not-so}
 use Rattle.demands.specs.Conditions.{means-a-security, means-a-trade, means-absent, means-an-account}
-use Rattle.demands.specs.Conditions.{means-bad-book, means-fields, means-lengths, means-more, means-no-charge}
-use Rattle.demands.specs.Conditions.{means-no-rate, means-not, means-one-fails, means-some, means-unknown}
+use Rattle.demands.specs.Conditions.{means-bad-book, means-fields, means-lengths, means-more, means-no-band}
+use Rattle.demands.specs.Conditions.{means-no-charge, means-no-rate, means-not, means-one-fails, means-some, means-unknown}
 use Rattle.demands.specs.Conditions.{means-untaxed}
 use Rattle.demands.specs.Demand2.{Demand2, fedBy, feedLines, lookupLines, orderLines, ownLines, resultLines}
 use Rattle.demands.specs.Demand2.{table}
@@ -55,12 +55,15 @@ order-told rs i good =
         λ _. (
           fails-not _ (means-untaxed rs good (i .party) (v .rates) (order.walked i v)),
           λ _. (
-            means-no-rate rs good (i .form) _ _ (i .n1),
+            fails-not _ (means-no-rate rs good (i .form) _ _ (i .n1)),
             λ _. (
-              means-no-charge rs good (i .form) _,
+              fails-not _ (means-no-band rs good (i .form) _ _ (i .n1)),
               λ _. (
-                means-more (order.nextNumber rs) (tradeNumber .high),
-                λ _. (means-more (length (order.posting i v .added)) (room rs), λ _. tt),
+                means-no-charge rs good (i .form) _,
+                λ _. (
+                  means-more (order.nextNumber rs) (tradeNumber .high),
+                  λ _. (means-more (length (order.posting i v .added)) (room rs), λ _. tt),
+                ),
               ),
             ),
           ),
@@ -74,7 +77,7 @@ order-status rs i =
     let cs = order.checks rs i (order.view rs i) in
     decided-status cs rs _ refl
     ∙ given-checks (orderLines rs i) cs
-    (refl, refl, (refl, refl, (refl, refl, (refl, refl, (refl, refl, (refl, refl, (refl, refl, tt)))))))
+    (refl, refl, (refl, refl, (refl, refl, (refl, refl, (refl, refl, (refl, refl, (refl, refl, (refl, refl, tt))))))))
 
 -- ---- result
 abbrev resultTests : List Row → Row → List Bool
@@ -92,13 +95,16 @@ result-told rs i good =
         λ _. (
           fails-not _ (means-untaxed rs good (v .trade .party) (v .rates) (f .walked)),
           λ _. (
-            means-no-rate rs good (v .trade .form) _ _ (v .trade .n1),
+            fails-not _ (means-no-rate rs good (v .trade .form) _ _ (v .trade .n1)),
             λ _. (
-              means-one-fails (leb (natAbs (f .balance)) moneyMost) (leb (b .n1 + 1) (brokerTrades .high))
-                  (leb (b .m1 + f .commission) (commissionTotal .high)) (means-more (natAbs (f .balance)) moneyMost)
-                  (means-more (b .n1 + 1) (brokerTrades .high))
-                  (means-more (b .m1 + f .commission) (commissionTotal .high)),
-              λ _. (means-more (length (result.posting i v f .added)) (room rs), λ _. tt),
+              fails-not _ (means-no-band rs good (v .trade .form) _ _ (v .trade .n1)),
+              λ _. (
+                means-one-fails (leb (natAbs (f .balance)) moneyMost) (leb (b .n1 + 1) (brokerTrades .high))
+                    (leb (b .m1 + f .commission) (commissionTotal .high)) (means-more (natAbs (f .balance)) moneyMost)
+                    (means-more (b .n1 + 1) (brokerTrades .high))
+                    (means-more (b .m1 + f .commission) (commissionTotal .high)),
+                λ _. (means-more (length (result.posting i v f .added)) (room rs), λ _. tt),
+              ),
             ),
           ),
         ),
@@ -112,7 +118,7 @@ result-status rs i =
     let cs = result.checks rs i v (result.figures i v) in
     decided-status cs rs _ refl
     ∙ given-checks (resultLines rs i) cs
-    (refl, refl, (refl, refl, (refl, refl, (refl, refl, (refl, refl, (refl, refl, tt))))))
+    (refl, refl, (refl, refl, (refl, refl, (refl, refl, (refl, refl, (refl, refl, (refl, refl, tt)))))))
 
 -- ---- feed
 abbrev feedTests : List Row → List Row → List Bool

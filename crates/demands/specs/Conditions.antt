@@ -1,12 +1,12 @@
 -- What the tests of the calls mean: each is true exactly when a condition of the table holds. Assumes nothing.
-use mathlib.Core.Path.{_≡_, refl, sym, ap, _∙_}
-use mathlib.Core.Bool.{Bool, true, false, not, _&&_, false≢true}
-use mathlib.Core.List.{List, [], _∷_, List·Memᴰ·head, List·Memᴰ·tail}
-use mathlib.Core.Logic.{_⊎_, inl, inr, ⊎-elim}
+use mathlib.Core.Path.{_≡_, refl, sym, ap, _∙_, subst}
+use mathlib.Core.Bool.{Bool, true, false, cond, not, _&&_, false≢true}
+use mathlib.Core.List.{List, [], _∷_, List·Memᴰ, List·Memᴰ·head, List·Memᴰ·tail}
+use mathlib.Core.Logic.{_⊎_, _↔_, inl, inr, ⊎-elim}
 use Prim.Native.Nat.{ℕ, _*_, _%_, _≤_, _<_}
 use native.Mathlib.Omega.{arith}
 use lib.Dec.{eqb, leb, ltb}
-use borrow.Author.Tests.{eqb-false, eqb-true, leb-false, leb-true, lt-leb, lt-ltb, ltb-true, not-true}
+use borrow.Author.Tests.{eqb-false, eqb-true, leb-false, leb-true, lt-leb, lt-ltb, ltb-true, ne-eqb, not-true}
 use Rattle.laws.specs.Keep.{the-has}
 use Rattle.laws.specs.Place.{the-none, the-passes}
 use Rattle.laws.specs.Puts.{the-one}
@@ -23,7 +23,9 @@ use Rattle.rules.specs.Meaning.{means-account, means-feed-input, means-lookup-i
 use Rattle.rules.specs.Meaning.{means-result-input}
 use Rattle.rules.specs.Ranges.{taxStatus}
 use Rattle.rules.specs.Rules.{as-kind}
-use Rattle.model.specs.Band.{bandRate}
+use Rattle.model.specs.declared.BandAnswer.{BandAnswer}
+use Rattle.model.specs.declared.BandAnswer.the-variants.{NoBand, Rate, ZeroRate}
+use Rattle.model.specs.Band.{answerOf, bandAnswer, bandFor, noBand, rated, zeroRate}
 use Rattle.model.specs.Call.{Call, aFeed, aLookup, aResult, anOrder, fieldsOf, lengthsOf, mostInputs}
 use Rattle.model.specs.Lots.{Walk}
 use Rattle.model.specs.Money.{taxable, untaxed}
@@ -35,8 +37,8 @@ use Rattle.facts.specs.Names.{by-id, by-party, by-symbol}
 use Rattle.facts.specs.Keys.{key-kind, of-live}
 use Rattle.preserved.specs.Cases.{by-cases, none-passes, not-so}
 use Rattle.preserved.specs.Once as once
-use Rattle.demands.specs.Demand2.{Account, Band, Charge, None, Records, RightFields, RightLengths, Security}
-use Rattle.demands.specs.Demand2.{Some, Trade, Untaxed, ZeroOrNone}
+use Rattle.demands.specs.Demand2.{Account, Answers, Band, Charge, None, Records, RightFields, RightLengths}
+use Rattle.demands.specs.Demand2.{Security, Some, Trade, Untaxed, ZeroOrNone}
 
 -- ---- tests and propositions
 -- the same test, or the same proposition in other words
@@ -190,22 +192,80 @@ module _ {p : Row → Bool} {P : Row → Type 0} (m : (r : Row) → Means (p r) 
         rw z;
   }
 
-module _ (rs : List Row) (good : sound rs ≡ true) where
-  pub means-no-rate : (form tier exchange shares : ℕ)
-      → Means (not (leb 1 (bandRate rs form tier exchange shares)))
-      (ZeroOrNone (Band form tier exchange shares) (λ r. r .n3) rs)
-  unfolding bandRate
-  means-no-rate form tier exchange shares =
-      means-zero
-      (λ r.
+-- ---- the search for a band: it gives an answer exactly where the book is as the answer says
+zero-told : (a : BandAnswer) → zeroRate a ≡ true → a ≡ ZeroRate
+zero-told (Rate r) e = absurd (false≢true e)
+zero-told ZeroRate e = refl
+zero-told NoBand e = absurd (false≢true e)
+
+none-told : (a : BandAnswer) → noBand a ≡ true → a ≡ NoBand
+none-told (Rate r) e = absurd (false≢true e)
+none-told ZeroRate e = absurd (false≢true e)
+none-told NoBand e = refl
+
+module _ (rs : List Row) (good : sound rs ≡ true) (form tier exchange shares : ℕ) where
+  abbrev holds : Row → Bool
+  holds r = bandFor form tier exchange shares r
+
+  abbrev Holds : Row → Type 0
+  Holds r = Band form tier exchange shares r
+
+  means-holds : (r : Row) → Means (holds r) (Holds r)
+  means-holds r =
       means-as (once.means-band form tier exchange shares r)
       (λ h. (h .0 .0 .0 .0 .0, h .0 .0 .0 .0 .1, h .0 .0 .0 .1, h .0 .0 .1, h .0 .1, h .1))
-      (λ h. (((((h .0, h .1), h .2), h .3), h .4), h .5)))
-      (λ r. r .n3)
-      rs
-      refl
-      (once.band-once rs good form tier exchange shares)
+      (λ h. (((((h .0, h .1), h .2), h .3), h .4), h .5))
 
+  -- a band that is found answers by its rate
+  by-rate : (r : Row) → Holds r → answerOf r ≡ rated (r .n3)
+  by-rate r h = rw (h .0)
+
+  answer-holds : Answers Holds rs (bandAnswer rs form tier exchange shares)
+  unfolding bandAnswer
+  answer-holds =
+      let r = the holds nothing rs in
+      by-cases (leb 1 (count holds rs))
+      (λ some.
+      let h = means-holds r .shows (the-passes holds nothing rs some) in
+      rw (by-rate r h) (go r h (the-has holds nothing rs some) (eqb (r .n3) 0) refl))
+      (λ none. rw (the-none holds nothing rs none) (means-none rs means-holds .shows (rw none)))
+    where
+      go : (r : Row) → Holds r → List·Memᴰ r rs → (t : Bool) → eqb (r .n3) 0 ≡ t
+          → Answers Holds rs (cond t ZeroRate (Rate (record { 0 = r .n3 })))
+      go r h m true e = (r, m, (h, eqb-true (r .n3) 0 e))
+      go r h m false e = let n : (r .n3 ≡ 0 → ⊥) = eqb-false (r .n3) 0 e in (omega arith, (r, m, (h, refl)))
+
+  -- the one band of the shares answers
+  of-band : (r : Row) → List·Memᴰ r rs → Holds r → bandAnswer rs form tier exchange shares ≡ rated (r .n3)
+  unfolding bandAnswer
+  of-band r m h =
+      ap answerOf
+      (the-one holds nothing r rs (once.band-once rs good form tier exchange shares) m (means-holds r .holds h))
+      ∙ by-rate r h
+
+  answer-is : (a : BandAnswer) → Answers Holds rs a → bandAnswer rs form tier exchange shares ≡ a
+  unfolding bandAnswer
+  answer-is (Rate rate) (least, (r, m, (h, e))) = of-band r m h ∙ rw (e, ne-eqb (rate .0) 0 (λ z. omega arith))
+  answer-is ZeroRate (r, m, (h, e)) = of-band r m h ∙ rw e
+  answer-is NoBand none =
+      ap answerOf (the-none holds nothing rs (not-true (leb 1 (count holds rs)) (means-none rs means-holds .holds none)))
+
+  pub band-answers : (a : BandAnswer) → (bandAnswer rs form tier exchange shares ≡ a) ↔ Answers Holds rs a
+  band-answers a = (λ e. subst (Answers Holds rs) e answer-holds, answer-is a)
+
+  pub means-no-rate : Means (zeroRate (bandAnswer rs form tier exchange shares)) (Answers Holds rs ZeroRate)
+  means-no-rate = record {
+    shows = λ e. band-answers ZeroRate .0 (zero-told _ e);
+    holds = λ h. rw (answer-is ZeroRate h);
+  }
+
+  pub means-no-band : Means (noBand (bandAnswer rs form tier exchange shares)) (Answers Holds rs NoBand)
+  means-no-band = record {
+    shows = λ e. band-answers NoBand .0 (none-told _ e);
+    holds = λ h. rw (answer-is NoBand h);
+  }
+
+module _ (rs : List Row) (good : sound rs ≡ true) where
   pub means-no-charge : (form tier : ℕ)
       → Means (not (leb 1 (found (aCharge form tier) rs .n1))) (ZeroOrNone (Charge form tier) (λ r. r .n1) rs)
   unfolding found

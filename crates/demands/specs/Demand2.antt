@@ -18,9 +18,12 @@ use Rattle.rules.specs.Meaning.{FeedInput, LookupInput, OrderInput, ResultInput
 use Rattle.rules.specs.Ranges.{brokerTrades, commissionTotal, moneyMost, tradeNumber, volume}
 use Rattle.model.specs.declared.Status.{Status}
 use Rattle.model.specs.declared.Status.the-variants.{BadBook, BadInput, BadLength, Done, FeedNoSecurity, LookupNoTrade}
-use Rattle.model.specs.declared.Status.the-variants.{NoRoom, OrderNoAccount, OrderNoCharge, OrderNoRate}
-use Rattle.model.specs.declared.Status.the-variants.{OrderNoSecurity, OrderNoTax, OverLimit, ResultNoRate}
-use Rattle.model.specs.declared.Status.the-variants.{ResultNoTax, ResultNoTrade, ResultNotSubmitted, Unsound}
+use Rattle.model.specs.declared.Status.the-variants.{NoRoom, OrderNoAccount, OrderNoBand, OrderNoCharge, OrderNoRate}
+use Rattle.model.specs.declared.Status.the-variants.{OrderNoSecurity, OrderNoTax, OverLimit, ResultNoBand}
+use Rattle.model.specs.declared.Status.the-variants.{ResultNoRate, ResultNoTax, ResultNoTrade, ResultNotSubmitted}
+use Rattle.model.specs.declared.Status.the-variants.{Unsound}
+use Rattle.model.specs.declared.BandAnswer.{BandAnswer}
+use Rattle.model.specs.declared.BandAnswer.the-variants.{NoBand, Rate, ZeroRate}
 use Rattle.model.specs.Call.{Call, Promise, aFeed, aLookup, aResult, anOrder, mostInputs, run}
 use Rattle.model.specs.Feed.{Fed, applied}
 use Rattle.model.specs.Lots.{Walk}
@@ -78,6 +81,13 @@ Band form tier exchange shares r =
     (r .kind ≡ kindBand) × (r .form ≡ form) × (r .status ≡ tier) × (r .flags ≡ exchange) × (r .n1 ≤ shares)
     × (shares ≤ r .n2)
 
+-- what an answer of the search for a band says of the bands that hold the shares: "a rate, a band with rate zero, or no
+-- band"
+abbrev pub Answers : (Row → Type 0) → List Row → BandAnswer → Type 0
+Answers P rs (Rate rate) = (1 ≤ rate .0) × Some (λ r. P r × (r .n3 ≡ rate .0)) rs
+Answers P rs ZeroRate = Some (λ r. P r × (r .n3 ≡ 0)) rs
+Answers P rs NoBand = None P rs
+
 -- there is no such row, or there is one with zero in a field
 abbrev pub ZeroOrNone : (Row → Type 0) → (Row → ℕ) → List Row → Type 0
 ZeroOrNone P field rs = None P rs ⊎ Some (λ r. P r × (field r ≡ 0)) rs
@@ -124,14 +134,16 @@ abbrev pub orderLines : List Row → Row → List Line
 orderLines rs i =
     let v = order.view rs i in
     let tier = tierOf rs (v .account) in
-    let exchange = exchangeOf rs (i .symbol) in
+    let band = Band (i .form) tier (exchangeOf rs (i .symbol)) (i .n1) in
     -- "no such account; no such security"
     (OrderNoAccount when None (Account (i .party)) rs)
     ∷ (OrderNoSecurity when None (Security (i .symbol)) rs)
     -- "there is a gain, the tax status is 1 or 2 and the customer's rates sum to zero"
     ∷ (OrderNoTax when Untaxed (v .account .form) (v .rates) (order.walked i v))
-    -- "rate 0 or no band; charge 0 or no row"
-    ∷ (OrderNoRate when ZeroOrNone (Band (i .form) tier exchange (i .n1)) (λ r. r .n3) rs)
+    -- "a band with rate zero"; "no band"
+    ∷ (OrderNoRate when Answers band rs ZeroRate)
+    ∷ (OrderNoBand when Answers band rs NoBand)
+    -- "charge 0 or no row"
     ∷ (OrderNoCharge when ZeroOrNone (Charge (i .form) tier) (λ r. r .n1) rs)
     -- "trade number .. would leave its range"
     ∷ (OverLimit when (tradeNumber .high < order.nextNumber rs))
@@ -150,9 +162,10 @@ resultLines rs i =
     -- "no such trade; its status is not 2"
     (ResultNoTrade when None (Trade (i .id)) rs)
     ∷ (ResultNotSubmitted when (t .status ≡ submitted → ⊥))
-    -- "as -731; as -732"
+    -- "as -731"; "a band with rate zero"; "no band"
     ∷ (ResultNoTax when Untaxed (v .account .form) (v .rates) (f .walked))
-    ∷ (ResultNoRate when ZeroOrNone band (λ r. r .n3) rs)
+    ∷ (ResultNoRate when Answers band rs ZeroRate)
+    ∷ (ResultNoBand when Answers band rs NoBand)
     -- "balance, broker's trades or commission total .. would leave its range"
     ∷ (OverLimit when ((moneyMost < natAbs (f .balance)) ⊎ ((brokerTrades .high < broker .n1 + 1)
     ⊎ (commissionTotal .high < broker .m1 + f .commission))))

@@ -13,7 +13,7 @@ use Rattle.facts.specs.Rows.{length-rows}
 use Rattle.places.specs.Rows.{rowAt}
 use Rattle.directory.specs.Listed.{places}
 
-there-is : (p : Row → Bool) (b : List ℕ) {x : ℕ} → x ≡ place p (rows b)
+pub there-is : (p : Row → Bool) (b : List ℕ) {x : ℕ} → x ≡ place p (rows b)
     → ltb x (places b) ≡ leb 1 (count p (rows b))
 there-is p b e = rw (e, ← length-rows b) (sym (some-place p (rows b)))
 

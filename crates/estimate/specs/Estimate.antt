@@ -2,7 +2,7 @@
 use mathlib.Core.Path.{_≡_}
 use mathlib.Core.Bool.{Bool, true, false, cond}
 use mathlib.Core.List.{List}
-use Prim.Native.Nat.{_≤_, _<_}
+use Prim.Native.Nat.{ℕ, _≤_, _<_}
 use lib.Dec.{leb}
 use lib.IntN.{pos}
 use lib.ListN.{length}
@@ -16,6 +16,7 @@ use Rattle.kinds.specs.declared.rows.Security.{Security}
 use Rattle.units.specs.declared.Cents.{Cents}
 use Rattle.units.specs.declared.Price.{Price}
 use Rattle.rules.specs.Ranges.{priceMost}
+use Rattle.model.specs.Band.{commissionRate}
 use Rattle.model.specs.Lots.{closings, lotsFor}
 use Rattle.model.specs.Lots
 use Rattle.model.specs.Money.{buys, commissionOf, taxOf, untaxed}
@@ -47,7 +48,7 @@ estimateOf rs i t =
       walk = w;
       tax = cents (pos (taxOf status (t .rates .0) (up (w .bought .0)) (up (w .sold .0))));
       untaxed = untaxed status (t .rates .0) (up (w .bought .0)) (up (w .sold .0));
-      commission = cents (pos (commissionOf (t .rate .0) (up (i .shares .0)) (price .0)));
+      commission = cents (pos (commissionOf (commissionRate (t .band)) (up (i .shares .0)) (price .0)));
     }
 
 -- ---- the price used
@@ -66,12 +67,13 @@ price-fits i t f r e = rw e (go (leb (i .«trade_type») tms))
     go false = f .bid
 
 -- ---- each value as it is worked out
-pub estimate-is : (rs : List Row) (i : OrderInput) (t : Terms) {p : Price} {w : Walk} {x k : Cents} {u : Bool}
+pub estimate-is : (rs : List Row) (i : OrderInput) (t : Terms) {p : Price} {w : Walk} {x k : Cents} {u : Bool} {z : ℕ}
     → p ≡ usedPrice i (t .paper .row)
     → w ≡ walkOf rs i p
     → x ≡ cents (pos (taxOf (t .holder .row .«tax_status») (t .rates .0) (up (w .bought .0)) (up (w .sold .0))))
     → u ≡ untaxed (t .holder .row .«tax_status») (t .rates .0) (up (w .bought .0)) (up (w .sold .0))
-    → k ≡ cents (pos (commissionOf (t .rate .0) (up (i .shares .0)) (p .0)))
+    → z ≡ commissionRate (t .band)
+    → k ≡ cents (pos (commissionOf z (up (i .shares .0)) (p .0)))
     → _≡_ {A = Estimate} (record { price = p; walk = w; tax = x; untaxed = u; commission = k }) (estimateOf rs i t)
 unfolding estimateOf
-estimate-is rs i t e g x u k = rw (k, u, x, g, e)
+estimate-is rs i t e g x u z k = rw (k, z, u, x, g, e)

@@ -11,8 +11,9 @@ use Rattle.record.specs.Signed.{up}
 use Rattle.kinds.specs.declared.inputs.OrderInput.{OrderInput}
 use Rattle.rules.specs.Ranges.{tradeNumber}
 use Rattle.model.specs.declared.Status.{Status}
-use Rattle.model.specs.declared.Status.the-variants.{Done, NoRoom, OrderNoAccount, OrderNoCharge, OrderNoRate}
-use Rattle.model.specs.declared.Status.the-variants.{OrderNoSecurity, OrderNoTax, OverLimit}
+use Rattle.model.specs.declared.Status.the-variants.{Done, NoRoom, OrderNoAccount, OrderNoBand, OrderNoCharge}
+use Rattle.model.specs.declared.Status.the-variants.{OrderNoRate, OrderNoSecurity, OrderNoTax, OverLimit}
+use Rattle.model.specs.Band.{noBand, zeroRate}
 use Rattle.model.specs.Plan.{Check, also, check, verdict}
 use Rattle.estimate.specs.declared.figures.Estimate.{Estimate}
 use Rattle.estimate.specs.declared.terms.Terms.{Terms}
@@ -33,7 +34,8 @@ ownChecks t e =
     check (t .holder .known) OrderNoAccount
     ∷ check (t .paper .known) OrderNoSecurity
     ∷ check (not (e .untaxed)) OrderNoTax
-    ∷ check (leb 1 (t .rate .0)) OrderNoRate
+    ∷ check (not (zeroRate (t .band))) OrderNoRate
+    ∷ check (not (noBand (t .band))) OrderNoBand
     ∷ check (leb 1 (up (t .charge .0))) OrderNoCharge
     ∷ []
 
@@ -47,7 +49,7 @@ pub own-judged : (t : Terms) (e : Estimate) {s1 s2 s3 s4 s5 : Status} {c : ℕ}
     → s1 ≡ also Done (t .holder .known) OrderNoAccount
     → s2 ≡ also s1 (t .paper .known) OrderNoSecurity
     → s3 ≡ also s2 (not (e .untaxed)) OrderNoTax
-    → s4 ≡ also s3 (leb 1 (t .rate .0)) OrderNoRate
+    → s4 ≡ also (also s3 (not (zeroRate (t .band))) OrderNoRate) (not (noBand (t .band))) OrderNoBand
     → c ≡ up (t .charge .0)
     → s5 ≡ also s4 (leb 1 c) OrderNoCharge
     → s5 ≡ verdict (ownChecks t e)

@@ -19,11 +19,11 @@ use Rattle.kinds.specs.declared.rows.Security.{Security}
 use Rattle.units.specs.declared.AccountNo.{AccountNo}
 use Rattle.units.specs.declared.Cents.{Cents}
 use Rattle.units.specs.declared.PerHundredThousand.{PerHundredThousand}
-use Rattle.units.specs.declared.PerTenThousand.{PerTenThousand}
 use Rattle.rules.specs.Meaning.{means-order-input}
 use Rattle.rules.specs.Ranges.{commissionPart, priceMost, sharesMost, taxPart}
 use Rattle.rules.specs.Rules.{orderInput}
-use Rattle.model.specs.Band.{bandRate}
+use Rattle.model.specs.declared.BandAnswer.{BandAnswer}
+use Rattle.model.specs.Band.{bandAnswer, commissionRate}
 use Rattle.model.specs.Names.{aCharge, aCustomer, aSecurity, anAccount}
 use Rattle.model.specs.Order.{nextNumber, tradeId}
 use Rattle.model.specs.Rows.{found, hasKey, rows, there}
@@ -44,9 +44,6 @@ holderOf rs a = record { row = accountOf (found (anAccount (a .0)) rs); known = 
 abbrev pub paperOf : List Row → Symbol → Paper
 paperOf rs symbol = record { row = securityOf (found (aSecurity symbol) rs); known = there (aSecurity symbol) rs }
 
-abbrev perTenThousand : ℕ → PerTenThousand
-perTenThousand x = record { 0 = x }
-
 abbrev perHundredThousand : ℕ → PerHundredThousand
 perHundredThousand x = record { 0 = x }
 
@@ -60,7 +57,7 @@ termsOf rs i =
       paper = paperOf rs (i .symbol);
       charge = cents (pos (found (aCharge (i .«trade_type») tier) rs .n1));
       rates = perHundredThousand (ratesOf rs (a .n2));
-      rate = perTenThousand (bandRate rs (i .«trade_type») tier (s .form) (up (i .shares .0)));
+      band = bandAnswer rs (i .«trade_type») tier (s .form) (up (i .shares .0));
       number = record { 0 = nextNumber rs };
     }
 
@@ -82,19 +79,18 @@ module _ (b : List ℕ) {x n : ℕ} {r : Row} (g : n ≡ places b) where
 
 -- each of them as it is read
 pub terms-are : (rs : List Row) (i : OrderInput) {h : Holder} {p : Paper} {tier top : ℕ} {c : Cents}
-    {ts : PerHundredThousand} {k : PerTenThousand} → h ≡ holderOf rs (i .account) → p ≡ paperOf rs (i .symbol)
+    {ts : PerHundredThousand} {k : BandAnswer} → h ≡ holderOf rs (i .account) → p ≡ paperOf rs (i .symbol)
     → tier ≡ found (aCustomer (h .row .customer .0)) rs .form
     → c ≡ cents (pos (found (aCharge (i .«trade_type») tier) rs .n1))
     → ts .0 ≡ ratesOf rs (h .row .customer .0)
-    → k .0 ≡ bandRate rs (i .«trade_type») tier (p .row .exchange) (up (i .shares .0)) → top ≡ largest tradeId rs
+    → k ≡ bandAnswer rs (i .«trade_type») tier (p .row .exchange) (up (i .shares .0)) → top ≡ largest tradeId rs
     → _≡_ {A = Terms}
-    (record { holder = h; paper = p; charge = c; rates = ts; rate = k; number = record { 0 = top + 1 } })
+    (record { holder = h; paper = p; charge = c; rates = ts; band = k; number = record { 0 = top + 1 } })
     (termsOf rs i)
 unfolding termsOf accountOf securityOf nextNumber
 terms-are rs i e f g m n o q =
     let t = ap perHundredThousand n in
-    let k = ap perTenThousand o in
-    rw (q, t, k, m, g, e, f)
+    rw (q, t, o, m, g, e, f)
 
 -- ---- the ranges
 pub record Fits (i : OrderInput) : Type 0 where
@@ -109,7 +105,7 @@ fits-of r e h =
 
 pub record Ranged (t : Terms) : Type 0 where
   pub rates : t .rates .0 ≤ taxPart .high
-  pub rate : t .rate .0 ≤ commissionPart .high
+  pub rate : commissionRate (t .band) ≤ commissionPart .high
   pub price : t .paper .row .«last_price» .0 ≤ priceMost
 
 pub ranged : (rs : List Row) (i : OrderInput) {t : Terms} → sound rs ≡ true → t ≡ termsOf rs i → Ranged t

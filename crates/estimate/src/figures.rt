@@ -18,6 +18,7 @@ use closing::walked;
 use kinds::inputs::OrderInput;
 use kinds::rows::Security;
 use money::fees::commission;
+use money::fees::commission_rate;
 use money::fees::tax;
 use money::fees::untaxed;
 use record::codes::TradeType;
@@ -64,6 +65,8 @@ pub fn estimated(book: &[u8], dir: &[u16], input: OrderInput, terms: Terms) -> E
 {
     let taxed = terms.holder.row.tax_status;
     let rates = terms.rates;
+    let band = terms.band;
+    let rate = commission_rate(band);
     let price = price_used(input, terms.paper.row);
     let w = closed(book, dir, input, price);
     Estimate {
@@ -71,6 +74,6 @@ pub fn estimated(book: &[u8], dir: &[u16], input: OrderInput, terms: Terms) -> E
         walk: w,
         tax: tax(taxed, rates, w.bought, w.sold),
         untaxed: untaxed(taxed, rates, w.bought, w.sold),
-        commission: commission(terms.rate, input.shares, price),
+        commission: commission(rate, input.shares, price),
     }
 }

@@ -10,6 +10,7 @@ use kinds::limits::Ranges;
 use model::Status;
 use record::codes::TradeType;
 use reply::also;
+use reply::also_rated;
 
 // The rows that an order adds: a trade and its history, and a request for types 3 to 5.
 fn rows_added(input: OrderInput) -> usize
@@ -26,10 +27,11 @@ fn rows_added(input: OrderInput) -> usize
 fn own_checks(terms: Terms, estimate: Estimate) -> Status
     ensures { λ s. ⌜ s ≡ verdict (ownChecks terms estimate) ⌝ }
 {
+    let band = terms.band;
     let s1 = also(Status::Done, terms.holder.known, Status::OrderNoAccount);
     let s2 = also(s1, terms.paper.known, Status::OrderNoSecurity);
     let s3 = also(s2, !estimate.untaxed, Status::OrderNoTax);
-    let s4 = also(s3, 1 <= terms.rate.0, Status::OrderNoRate);
+    let s4 = also_rated(s3, band, Status::OrderNoRate, Status::OrderNoBand);
     also(s4, 1 <= terms.charge.plain(), Status::OrderNoCharge)
 }
 

@@ -12,20 +12,20 @@ ghost use Rattle.estimate.specs.Terms.{holderOf, paperOf, termsOf};
 use directory::build::places;
 use directory::totals::Totals;
 use directory::typed;
-use groups::band::rate;
+use groups::band;
 use groups::sums::tax_rates;
 use kinds::inputs::OrderInput;
 use kinds::rows::Account;
 use kinds::rows::Charge;
 use kinds::rows::Customer;
 use kinds::rows::Security;
+use model::BandAnswer;
 use places::place::record_at;
 use record::symbol::Symbol;
 use units::AccountNo;
 use units::Cents;
 use units::CustomerNo;
 use units::PerHundredThousand;
-use units::PerTenThousand;
 use units::TradeNo;
 
 // An account, and whether it is there.
@@ -47,7 +47,7 @@ pub struct Terms {
     pub paper: Paper,
     pub charge: Cents,
     pub rates: PerHundredThousand,
-    pub rate: PerTenThousand,
+    pub band: BandAnswer,
     pub number: TradeNo,
 }
 
@@ -105,7 +105,7 @@ pub fn terms_of(book: &[u8], dir: &[u16], t: Totals, input: OrderInput) -> Terms
         paper,
         charge: charge_of(book, dir, form, tier),
         rates: tax_rates(book, dir, customer),
-        rate: rate(book, dir, form, tier, paper.row.exchange, input.shares),
+        band: band::search(book, dir, form, tier, paper.row.exchange, input.shares),
         number: TradeNo(t.largest.0 + 1),
     }
 }

@@ -16,8 +16,8 @@ use Rattle.laws.specs.Keep.{the-has}
 use Rattle.laws.specs.Search.{count, every, largest, sumZ, total}
 use Rattle.laws.specs.Tests.{and-left, and-right}
 use Rattle.laws.specs.Total.{total-zero}
-use Rattle.record.specs.Codes.{kindAccount, kindBand, kindCustomer, kindCustomerRate, kindLot, kindSecurity}
-use Rattle.record.specs.Codes.{kindTrade}
+use Rattle.record.specs.Codes.{kindAccount, kindBand, kindCustomer, kindCustomerRate, kindFree, kindLot}
+use Rattle.record.specs.Codes.{kindSecurity, kindTrade}
 use Rattle.record.specs.Symbol.{sameSymbol}
 use Rattle.record.specs.declared.row.Row.{Row}
 use Rattle.record.specs.declared.symbol.Symbol.{Symbol}
@@ -25,7 +25,8 @@ use Rattle.rules.specs.Meaning.{means-account, means-band, means-fits, means-lo
 use Rattle.rules.specs.Meaning.{means-trade}
 use Rattle.rules.specs.Ranges.{charged, commissionPart, moneyMost, priceMost, sharesMost, taxPart, tradeNumber}
 use Rattle.rules.specs.Rules.{as-kind, fits, resultInput}
-use Rattle.model.specs.Band.{bandFor, bandRate}
+use Rattle.model.specs.Band.{answerOf, bandAnswer, bandFor, commissionRate}
+use Rattle.model.specs.declared.BandAnswer.the-variants.{NoBand, Rate, ZeroRate}
 use Rattle.model.specs.Names.{aCustomer, aLot, aSecurity, aSummary, aTrade, anAccount, named}
 use Rattle.model.specs.Order.{tradeId}
 use Rattle.model.specs.Result.{view}
@@ -70,18 +71,34 @@ unfolding s1
 number-most rs e = numbers-most rs e
 
 -- ---- the commission rate
-pub rate-most : (rs : List Row) (form tier exchange shares : ℕ) → s1 rs ≡ true
-    → bandRate rs form tier exchange shares ≤ commissionPart .high
-unfolding bandRate
-rate-most rs form tier exchange shares e =
-    the-most (bandFor form tier exchange shares) (λ (r : Row). r .n3) (commissionPart .high) rs e
-    (λ r f h.
+pub band-kind : (form tier exchange shares : ℕ) (r : Row) → bandFor form tier exchange shares r ≡ true
+    → r .kind ≡ kindBand
+band-kind form tier exchange shares r h =
     let to = and-left _ (leb shares (r .n2)) h in
     let from = and-left _ (leb (r .n1) shares) to in
     let at = and-left _ (eqb (r .flags) exchange) from in
     let of = and-left _ (eqb (r .status) tier) at in
-    let k = eqb-true (r .kind) kindBand (and-left _ (eqb (r .form) form) of) in
-    means-band r .shows (as-kind kindBand r k ∙ f) .0 .2 .2 .2 .2 .2 .2 .2 .2 .2 .1)
+    eqb-true (r .kind) kindBand (and-left _ (eqb (r .form) form) of)
+
+-- an answer has the rate of its row, or none
+answer-most : (r : Row) → commissionRate (answerOf r) ≤ r .n3
+answer-most r = go (is kindFree r) (eqb (r .n3) 0)
+  where
+    go : (t u : Bool) → commissionRate (cond t NoBand (cond u ZeroRate (Rate (record { 0 = r .n3 })))) ≤ r .n3
+    go true u = omega arith
+    go false true = omega arith
+    go false false = omega arith
+
+pub rate-most : (rs : List Row) (form tier exchange shares : ℕ) → s1 rs ≡ true
+    → commissionRate (bandAnswer rs form tier exchange shares) ≤ commissionPart .high
+unfolding bandAnswer
+rate-most rs form tier exchange shares e =
+    the-most (bandFor form tier exchange shares) (λ (r : Row). commissionRate (answerOf r)) (commissionPart .high) rs e
+    (λ r f h.
+    let most = answer-most r in
+    let k = band-kind form tier exchange shares r h in
+    let rate = means-band r .shows (as-kind kindBand r k ∙ f) .0 .2 .2 .2 .2 .2 .2 .2 .2 .2 .1 in
+    omega arith)
     (omega arith)
 
 -- ---- the tax rates of a customer
@@ -228,7 +245,7 @@ module _ (rs : List Row) (input : Row) (good : sound rs ≡ true) where
   unfolding view
   rates-near = rates-most rs (found (anAccount (found (aTrade (input .id)) rs .party)) rs .n2) good
 
-  pub rate-near : view rs input .rate ≤ commissionPart .high
+  pub rate-near : commissionRate (view rs input .band) ≤ commissionPart .high
   unfolding view
   rate-near =
       let r = found (aTrade (input .id)) rs in

@@ -13,16 +13,16 @@ use Rattle.laws.specs.Search.{the}
 use Rattle.model.specs.Status.{isDone, number}
 use Rattle.model.specs.declared.Status.{Status}
 use Rattle.model.specs.declared.Status.the-variants.{BadBook, BadInput, BadLength, Done, FeedNoSecurity}
-use Rattle.model.specs.declared.Status.the-variants.{LookupNoTrade, NoRoom, OrderNoAccount, OrderNoCharge}
-use Rattle.model.specs.declared.Status.the-variants.{OrderNoRate, OrderNoSecurity, OrderNoTax, OverLimit}
-use Rattle.model.specs.declared.Status.the-variants.{ResultNoRate, ResultNoTax, ResultNoTrade, ResultNotSubmitted}
-use Rattle.model.specs.declared.Status.the-variants.{Unsound}
+use Rattle.model.specs.declared.Status.the-variants.{LookupNoTrade, NoRoom, OrderNoAccount, OrderNoBand}
+use Rattle.model.specs.declared.Status.the-variants.{OrderNoCharge, OrderNoRate, OrderNoSecurity, OrderNoTax}
+use Rattle.model.specs.declared.Status.the-variants.{OverLimit, ResultNoBand, ResultNoRate, ResultNoTax}
+use Rattle.model.specs.declared.Status.the-variants.{ResultNoTrade, ResultNotSubmitted, Unsound}
 
 abbrev statuses : List Status
 statuses =
     Done ∷ BadLength ∷ BadBook ∷ Unsound ∷ BadInput ∷ OverLimit ∷ NoRoom ∷ OrderNoAccount ∷ OrderNoSecurity
-    ∷ OrderNoTax ∷ OrderNoRate ∷ OrderNoCharge ∷ ResultNoTrade ∷ ResultNotSubmitted ∷ ResultNoTax ∷ ResultNoRate
-    ∷ FeedNoSecurity ∷ LookupNoTrade ∷ []
+    ∷ OrderNoTax ∷ OrderNoRate ∷ OrderNoBand ∷ OrderNoCharge ∷ ResultNoTrade ∷ ResultNotSubmitted ∷ ResultNoTax
+    ∷ ResultNoRate ∷ ResultNoBand ∷ FeedNoSecurity ∷ LookupNoTrade ∷ []
 
 -- the status whose number it is
 abbrev named : ℤ → Status
@@ -46,11 +46,13 @@ numbered OrderNoAccount = (refl, refl, refl, refl)
 numbered OrderNoSecurity = (refl, refl, refl, refl)
 numbered OrderNoTax = (refl, refl, refl, refl)
 numbered OrderNoRate = (refl, refl, refl, refl)
+numbered OrderNoBand = (refl, refl, refl, refl)
 numbered OrderNoCharge = (refl, refl, refl, refl)
 numbered ResultNoTrade = (refl, refl, refl, refl)
 numbered ResultNotSubmitted = (refl, refl, refl, refl)
 numbered ResultNoTax = (refl, refl, refl, refl)
 numbered ResultNoRate = (refl, refl, refl, refl)
+numbered ResultNoBand = (refl, refl, refl, refl)
 numbered FeedNoSecurity = (refl, refl, refl, refl)
 numbered LookupNoTrade = (refl, refl, refl, refl)
 

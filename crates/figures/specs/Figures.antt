@@ -15,6 +15,7 @@ use Rattle.units.specs.Units.{cents, shares}
 use Rattle.kinds.specs.declared.inputs.ResultInput.{ResultInput}
 use Rattle.rules.specs.Ranges.{charged, commissionPart, moneyMost, priceMost, sharesMost, taxPart}
 use Rattle.rules.specs.Rules.{resultInput}
+use Rattle.model.specs.Band.{commissionRate}
 use Rattle.model.specs.Flags.{cash}
 use Rattle.model.specs.Lots.{closings}
 use Rattle.model.specs.Lots
@@ -37,7 +38,7 @@ figuresBy i t w =
     let form = t .trade .«trade_type» in
     let taxed = t .account .«tax_status» in
     let tax = taxOf taxed (t .rates .0) (up (w .bought .0)) (up (w .sold .0)) in
-    let commission = commissionOf (t .rate .0) n (i .price .0) in
+    let commission = commissionOf (commissionRate (t .band)) n (i .price .0) in
     let s = settlementOf form taxed (n * i .price .0) (up (t .trade .charge .0)) commission tax in
     let before = t .account .balance .0 in
     record {
@@ -56,7 +57,7 @@ pub record Ranged (i : ResultInput) (t : Terms) (w : Walk) : Type 0 where
   pub count : UpTo sharesMost (t .trade .shares .0)
   pub charge : UpTo (charged .high) (t .trade .charge .0)
   pub rates : t .rates .0 ≤ taxPart .high
-  pub rate : t .rate .0 ≤ commissionPart .high
+  pub rate : commissionRate (t .band) ≤ commissionPart .high
   pub balance : natAbs (t .account .balance .0) ≤ moneyMost
   pub holding : natAbs (t .summary .shares .0) ≤ moneyMost
   pub sold : up (w .sold .0) ≤ valueMost

@@ -17,6 +17,7 @@ ghost use Rattle.figures.specs.Reckoned.{Reckoned};
 use closing::walked;
 use kinds::inputs::ResultInput;
 use money::fees::commission;
+use money::fees::commission_rate;
 use money::fees::tax;
 use money::fees::untaxed;
 use money::fees::value;
@@ -55,7 +56,9 @@ fn figured(input: ResultInput, terms: Terms, walk: Walk) -> Figures
     let taxed = terms.account.tax_status;
     let price = input.price;
     let levy = tax(taxed, terms.rates, walk.bought, walk.sold);
-    let fee = commission(terms.rate, trade.shares, price);
+    let band = terms.band;
+    let rate = commission_rate(band);
+    let fee = commission(rate, trade.shares, price);
     let worth = value(trade.shares, price);
     let amount = settlement(trade.trade_type, taxed, worth, trade.charge, fee, levy);
     Figures {

@@ -1,15 +1,17 @@
-// The commission band of so many shares, and its rate.
+// The search for the commission band of so many shares: a rate, a band with rate zero, or no band.
 ghost use mathlib.Core.Path.{_≡_};
 ghost use Prim.Native.Nat.{_<_};
 ghost use Rattle.laws.specs.Search.{place};
 ghost use Rattle.record.specs.Signed.{up};
-ghost use Rattle.model.specs.Band.{bandFor, bandRate};
+ghost use Rattle.model.specs.Band.{bandAnswer, bandFor, rated};
 ghost use Rattle.model.specs.Rows.{places, rows};
 ghost use Rattle.places.specs.Rows.{rowAt};
 ghost use Rattle.directory.specs.Listed.{Listed};
 use chains::chain::next;
 use chains::group;
+use directory::build::places;
 use kinds::rows::Band;
+use model::BandAnswer;
 use places::place::part;
 use places::place::record_at;
 use record::codes::Kind;
@@ -36,7 +38,7 @@ fn holds(book: &[u8], form: u8, tier: u8, exchange: u8, shares: Shares, at: usiz
 }
 
 // The place of the band that holds the shares, the number of places where there is none.
-pub fn band(book: &[u8], dir: &[u16], form: u8, tier: u8, exchange: u8, shares: Shares) -> usize
+fn band(book: &[u8], dir: &[u16], form: u8, tier: u8, exchange: u8, shares: Shares) -> usize
     requires { ⌜ Listed (now book) (now dir) ⌝ }
     ensures { λ r. ⌜ r ≡ place (bandFor form tier exchange (up (shares .0))) (rows (now (book .entry))) ⌝ }
 {
@@ -52,18 +54,31 @@ pub fn band(book: &[u8], dir: &[u16], form: u8, tier: u8, exchange: u8, shares: 
     c
 }
 
-// Its rate, 0 where there is none.
-pub fn rate(
+// What a band of this rate answers.
+fn rated(rate: PerTenThousand) -> BandAnswer
+    ensures { λ r. ⌜ r ≡ rated (rate .0) ⌝ }
+{
+    if rate.0 == 0 {
+        return BandAnswer::ZeroRate;
+    }
+    BandAnswer::Rate(rate)
+}
+
+pub fn search(
     book: &[u8],
     dir: &[u16],
     form: u8,
     tier: u8,
     exchange: u8,
     shares: Shares,
-) -> PerTenThousand
+) -> BandAnswer
     requires { ⌜ Listed (now book) (now dir) ⌝ }
-    ensures { λ r. ⌜ r .0 ≡ bandRate (rows (now (book .entry))) form tier exchange (up (shares .0)) ⌝ }
+    ensures { λ r. ⌜ r ≡ bandAnswer (rows (now (book .entry))) form tier exchange (up (shares .0)) ⌝ }
 {
-    let bytes = record_at(book, band(book, dir, form, tier, exchange, shares));
-    Band::from_bytes(&bytes).rate
+    let at = band(book, dir, form, tier, exchange, shares);
+    if at < places(book) {
+        let bytes = record_at(book, at);
+        return rated(Band::from_bytes(&bytes).rate);
+    }
+    BandAnswer::NoBand
 }

@@ -19,7 +19,7 @@ use Rattle.rules.specs.Rules.{customerRateShape, accountShape, securityShape, b
 use Rattle.rules.specs.Rules.{tradeShape, requestShape, tradeHistoryShape, lotShape, summaryShape}
 use Rattle.rules.specs.Rules.{lotHistoryShape, settlementShape, cashShape, orderInputShape, resultInputShape}
 use Rattle.rules.specs.Rules.{feedInputShape, lookupInputShape}
-use Rattle.model.specs.Band.{bandRate}
+use Rattle.model.specs.Band.{bandAnswer}
 use Rattle.model.specs.Call as call
 use Rattle.model.specs.Call.{Reply, feedCall, lookupCall, orderCall, refusalArea, replied, resultCall, shell}
 use Rattle.model.specs.Feed as feed
@@ -78,7 +78,7 @@ unfolding commissionOf settlementOf taxOf taxable untaxed
 moneyOpened = 0
 
 unfoldable postingOpened : ℕ
-unfolding shellOpened moneyOpened bandRate closings lotsFor walk posted
+unfolding shellOpened moneyOpened bandAnswer closings lotsFor walk posted
 postingOpened = 0
 
 -- ---- the calls

@@ -11,9 +11,10 @@ use Rattle.record.specs.Symbol.{symbolNumber}
 use Rattle.record.specs.declared.row.Row.{Row}
 use Rattle.rules.specs.Ranges.{flags, form, id, kind, m1, m2, n1, n2, n3, n4, party, status, symbol, tradeNumber}
 use Rattle.rules.specs.Ranges.{when}
-use Rattle.model.specs.declared.Status.the-variants.{OrderNoAccount, OrderNoCharge, OrderNoRate}
-use Rattle.model.specs.declared.Status.the-variants.{OrderNoSecurity, OrderNoTax}
-use Rattle.model.specs.Band.{bandRate}
+use Rattle.model.specs.declared.Status.the-variants.{OrderNoAccount, OrderNoBand, OrderNoCharge}
+use Rattle.model.specs.declared.Status.the-variants.{OrderNoRate, OrderNoSecurity, OrderNoTax}
+use Rattle.model.specs.declared.BandAnswer.{BandAnswer}
+use Rattle.model.specs.Band.{bandAnswer, commissionRate, noBand, zeroRate}
 use Rattle.model.specs.Edit.{_≔_, inSymbol, new}
 use Rattle.model.specs.Flags.{rollBack}
 use Rattle.model.specs.History.{historyRow}
@@ -37,7 +38,7 @@ pub record View : Type 0 where
   pub security : Row
   pub charge : ℕ
   pub rates : ℕ
-  pub rate : ℕ
+  pub band : BandAnswer
   pub lots : List Row
   pub number : ℕ
 
@@ -51,7 +52,7 @@ view rs input =
       security = s;
       charge = found (aCharge (input .form) tier) rs .n1;
       rates = ratesOf rs (a .n2);
-      rate = bandRate rs (input .form) tier (s .form) (input .n1);
+      band = bandAnswer rs (input .form) tier (s .form) (input .n1);
       lots = lotsFor rs (input .form) (input .flags) (input .party) (input .symbol);
       number = nextNumber rs;
     }
@@ -106,9 +107,9 @@ posting input v =
       changes = [];
       freed = [];
       added =
-          addedRows input (v .account .n1) (v .number) price (v .charge) (commissionOf (v .rate) (input .n1) price);
+          addedRows input (v .account .n1) (v .number) price (v .charge) (commissionOf (commissionRate (v .band)) (input .n1) price);
       answer =
-          answerRow (v .number) (taxed input v) (v .charge) (v .rate) price (walked input v .bought)
+          answerRow (v .number) (taxed input v) (v .charge) (commissionRate (v .band)) price (walked input v .bought)
           (walked input v .sold);
     }
 
@@ -118,7 +119,8 @@ checks rs input v =
     check (not (is kindFree (v .account))) OrderNoAccount
     ∷ check (not (is kindFree (v .security))) OrderNoSecurity
     ∷ check (not (untaxed (v .account .form) (v .rates) (walked input v .bought) (walked input v .sold))) OrderNoTax
-    ∷ check (leb 1 (v .rate)) OrderNoRate
+    ∷ check (not (zeroRate (v .band))) OrderNoRate
+    ∷ check (not (noBand (v .band))) OrderNoBand
     ∷ check (leb 1 (v .charge)) OrderNoCharge
     ∷ lastChecks (leb (v .number) (tradeNumber .high)) (length (posting input v .added)) rs
 

@@ -17,7 +17,7 @@ use Rattle.model.specs.Edit.{_≔_, changed}
 use Rattle.model.specs.Evaluate.{feedOpened, lookupOpened, orderOpened, resultOpened}
 use Rattle.model.specs.Rows.{bytes}
 use Rattle.model.specs.Sample.{abc, atLimits, day, entryAt, gainingBy, lastNumber, lookupOf, orderFor, orderOf}
-use Rattle.model.specs.Sample.{resultAt, selling, without}
+use Rattle.model.specs.Sample.{resultAt, selling, unrated, without}
 use Rattle.model.specs.Status.{number}
 
 pub data Case : Type 0 where
@@ -71,19 +71,23 @@ table =
     ∷ (aResult (drop 1 (bytes (twice day))) (encode (resultAt 0)) gives 101)
     ∷ (result (twice day) (resultAt 0) gives 102)
     ∷ (result day (changed (resultAt 0) (id ≔ 77 ∷ [])) gives 103)
-    -- order: account, security, tax, rate, charge, number, room
+    -- order: account, security, tax, band or its rate, charge, number, room
     ∷ (order day (orderOf 1 9 unknown 5) gives 711)
     ∷ (order (bare day) (orderFor unknown 5) gives 712)
     ∷ (order (bare (gainingBy 0 2_998)) (orderOf 2 1 abc 1) gives 731)
-    ∷ (order (bare day) (orderFor abc 5) gives 732)
+    ∷ (order (without kindCharge (unrated day)) (orderFor abc 5) gives 732)
+    ∷ (order (bare day) (orderFor abc 5) gives 735)
+    ∷ (order (without kindCharge (unrated day)) (orderFor abc 1_001) gives 735)
     ∷ (order (without kindCharge (lastNumber ++ day)) (orderFor abc 5) gives 733)
     ∷ (order (lastNumber ++ selling 1 120 0) (orderFor abc 5) gives 104)
     ∷ (order (selling 1 120 1) (orderFor abc 5) gives 105)
-    -- result: trade, its status, tax, rate, limits, room
+    -- result: trade, its status, tax, band or its rate, limits, room
     ∷ (result day (changed (resultAt 3_000) (id ≔ 77 ∷ [])) gives 811)
     ∷ (result (bare day) (changed (resultAt 3_000) (id ≔ 20 ∷ [])) gives 812)
     ∷ (result (bare (gainingBy 0 2_998)) (resultAt 3_000) gives 831)
-    ∷ (result (bare (atLimits (selling 1 120 0))) (resultAt 3_000) gives 841)
+    ∷ (result (unrated (atLimits (selling 1 120 0))) (resultAt 3_000) gives 841)
+    ∷ (result (bare (atLimits (selling 1 120 0))) (resultAt 3_000) gives 842)
+    ∷ (result (unrated (atLimits (selling 1 1_001 0))) (resultAt 3_000) gives 842)
     ∷ (result (atLimits (selling 1 120 0)) (resultAt 3_000) gives 104)
     ∷ (result (selling 1 120 0) (resultAt 3_000) gives 105)
     -- feed: security, volume, room

@@ -15,13 +15,14 @@ use Rattle.record.specs.declared.row.Row.{Row}
 use Rattle.rules.specs.Ranges.{brokerTrades, commissionTotal, flags, id, kind, m1, m2, moneyMost, n1, n2, n3, party}
 use Rattle.rules.specs.Ranges.{status, symbol, when}
 pub use Rattle.rules.specs.Ranges.{settlementSeconds}
-use Rattle.model.specs.declared.Status.the-variants.{ResultNoRate, ResultNoTax, ResultNoTrade}
-use Rattle.model.specs.declared.Status.the-variants.{ResultNotSubmitted}
+use Rattle.model.specs.declared.Status.the-variants.{ResultNoBand, ResultNoRate, ResultNoTax}
+use Rattle.model.specs.declared.Status.the-variants.{ResultNoTrade, ResultNotSubmitted}
+use Rattle.model.specs.declared.BandAnswer.{BandAnswer}
 use Rattle.model.specs.Edit.{_≔_, bits32, bits64, changed, inSymbol, new}
 use Rattle.model.specs.Flags.{cash}
 use Rattle.model.specs.History.{historyRow}
 use Rattle.model.specs.Lots.{Closing, Walk, closings, lotsFor, size, walk}
-use Rattle.model.specs.Band.{bandRate}
+use Rattle.model.specs.Band.{bandAnswer, commissionRate, noBand, zeroRate}
 use Rattle.model.specs.Money.{buys, commissionOf, settlementOf, taxOf, untaxed}
 use Rattle.model.specs.Names.{aBroker, aCustomer, aSecurity, aSummary, aTrade, anAccount}
 use Rattle.model.specs.Plan.{Check, Outcome, Posting, accepted, check, decided, lastChecks, posted}
@@ -34,7 +35,7 @@ pub record View : Type 0 where
   pub account : Row
   pub summary : Row
   pub rates : ℕ
-  pub rate : ℕ
+  pub band : BandAnswer
   pub lots : List Row
 
 unfoldable pub view : List Row → Row → View
@@ -48,7 +49,7 @@ view rs input =
       account = a;
       summary = found (aSummary (t .party) (t .symbol)) rs;
       rates = ratesOf rs (a .n2);
-      rate = bandRate rs (t .form) tier exchange (t .n1);
+      band = bandAnswer rs (t .form) tier exchange (t .n1);
       lots = lotsFor rs (t .form) (t .flags) (t .party) (t .symbol);
     }
 
@@ -65,7 +66,7 @@ figures input v =
     let t = v .trade in
     let w = walk (t .form) (input .n1) (t .n1) (v .lots) in
     let tax = taxOf (v .account .form) (v .rates) (w .bought) (w .sold) in
-    let commission = commissionOf (v .rate) (t .n1) (input .n1) in
+    let commission = commissionOf (commissionRate (v .band)) (t .n1) (input .n1) in
     let s = settlementOf (t .form) (v .account .form) (t .n1 * input .n1) (t .n4) commission tax in
     let before = toZ w64 (v .account .m1) in
     record {
@@ -236,7 +237,8 @@ ownChecks v f =
     check (not (is kindFree (v .trade))) ResultNoTrade
     ∷ check (eqb (v .trade .status) submitted) ResultNotSubmitted
     ∷ check (not (untaxed (v .account .form) (v .rates) (f .walked .bought) (f .walked .sold))) ResultNoTax
-    ∷ check (leb 1 (v .rate)) ResultNoRate
+    ∷ check (not (zeroRate (v .band))) ResultNoRate
+    ∷ check (not (noBand (v .band))) ResultNoBand
     ∷ []
 
 -- and by the broker and the room, too

@@ -15,7 +15,7 @@ use Rattle.record.specs.declared.row.Row.{Row}
 use Rattle.record.specs.declared.symbol.Symbol.{Symbol}
 use Rattle.rules.specs.Ranges.{brokerTrades, flags, form, id, kind, m1, n1, n2, n3, n4, party, status, symbol}
 use Rattle.rules.specs.Ranges.{tradeNumber, volume, when}
-use Rattle.model.specs.Edit.{_≔_, bits64, changed, new}
+use Rattle.model.specs.Edit.{Put, _≔_, bits64, changed, new}
 use Rattle.model.specs.Money.{buys}
 use Rattle.model.specs.Result.{settlementSeconds}
 use Rattle.model.specs.Rows.{nothing}
@@ -113,20 +113,17 @@ waiting = standing ++ requested ++ nothing ∷ nothing ∷ []
 abbrev pub day : List Row
 day = requested ++ selling 1 120 8
 
--- a security at this last price
-abbrev priced : ℕ → Row → Row
-priced price r = cond (eqb (r .kind) kindSecurity) (changed r (n1 ≔ price ∷ [])) r
+-- one field of every row of a kind
+abbrev each : ℕ → Put → List Row → List Row
+each k p rs = map (λ (r : Row). cond (eqb (r .kind) k) (changed r (p ∷ [])) r) rs
 
+-- every security at this last price
 abbrev pub lastAt : ℕ → List Row
-lastAt price = map (priced price) waiting
-
--- every tax rate is this one
-abbrev rated : ℕ → Row → Row
-rated rate r = cond (eqb (r .kind) kindTaxRate) (changed r (n1 ≔ rate ∷ [])) r
+lastAt price = each kindSecurity (n1 ≔ price) waiting
 
 -- one share at a price, as above, and rates that sum to so much
 abbrev pub gainingBy : ℕ → ℕ → List Row
-gainingBy rates price = map (rated rates) (gaining price)
+gainingBy rates price = each kindTaxRate (n1 ≔ rates) (gaining price)
 
 -- the inputs
 abbrev pub resultAt : ℕ → Row
@@ -150,6 +147,10 @@ lookupOf number = new (kind ≔ kindLookup ∷ id ≔ number ∷ [])
 -- ---- books that lack something, or are at a limit
 abbrev pub without : ℕ → List Row → List Row
 without k rs = keep (λ (r : Row). not (eqb (r .kind) k)) rs
+
+-- bands of rate zero
+abbrev pub unrated : List Row → List Row
+unrated rs = each kindBand (n3 ≔ 0) rs
 
 -- a pending trade with the largest number there is, and its request
 abbrev pub lastNumber : List Row

@@ -4,9 +4,9 @@ use Prim.Native.Nat.{ℕ}
 use lib.IntN.{ℤ, pos, negℤ}
 use Rattle.model.specs.declared.Status.{Status}
 use Rattle.model.specs.declared.Status.the-variants.{BadBook, BadInput, BadLength, Done, FeedNoSecurity}
-use Rattle.model.specs.declared.Status.the-variants.{LookupNoTrade, NoRoom, OrderNoAccount, OrderNoCharge}
-use Rattle.model.specs.declared.Status.the-variants.{OrderNoRate, OrderNoSecurity, OrderNoTax, OverLimit}
-use Rattle.model.specs.declared.Status.the-variants.{ResultNoRate, ResultNoTax, ResultNoTrade}
+use Rattle.model.specs.declared.Status.the-variants.{LookupNoTrade, NoRoom, OrderNoAccount, OrderNoBand}
+use Rattle.model.specs.declared.Status.the-variants.{OrderNoCharge, OrderNoRate, OrderNoSecurity, OrderNoTax}
+use Rattle.model.specs.declared.Status.the-variants.{OverLimit, ResultNoBand, ResultNoRate, ResultNoTax, ResultNoTrade}
 use Rattle.model.specs.declared.Status.the-variants.{ResultNotSubmitted, Unsound}
 
 -- -n, for n above zero
@@ -25,11 +25,13 @@ number OrderNoAccount = minus 711
 number OrderNoSecurity = minus 712
 number OrderNoTax = minus 731
 number OrderNoRate = minus 732
+number OrderNoBand = minus 735
 number OrderNoCharge = minus 733
 number ResultNoTrade = minus 811
 number ResultNotSubmitted = minus 812
 number ResultNoTax = minus 831
 number ResultNoRate = minus 841
+number ResultNoBand = minus 842
 number FeedNoSecurity = minus 311
 number LookupNoTrade = minus 611
 
@@ -45,10 +47,12 @@ isDone OrderNoAccount = false
 isDone OrderNoSecurity = false
 isDone OrderNoTax = false
 isDone OrderNoRate = false
+isDone OrderNoBand = false
 isDone OrderNoCharge = false
 isDone ResultNoTrade = false
 isDone ResultNotSubmitted = false
 isDone ResultNoTax = false
 isDone ResultNoRate = false
+isDone ResultNoBand = false
 isDone FeedNoSecurity = false
 isDone LookupNoTrade = false

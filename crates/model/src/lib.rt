@@ -1,5 +1,13 @@
 // What the rules say, as definitions: specs/ is the one place that a reader must believe. Nothing runs here; the
 // answers of the calls are declared.
+use units::PerTenThousand;
+
+// What the search for a commission band answers: `bandAnswer` of specs/Band.antt says which of the three, and when.
+pub enum BandAnswer {
+    Rate(PerTenThousand),
+    ZeroRate,
+    NoBand,
+}
 
 // How a call ends. The number of each is `number` of specs/Status.antt.
 pub enum Status {
@@ -14,11 +22,13 @@ pub enum Status {
     OrderNoSecurity,
     OrderNoTax,
     OrderNoRate,
+    OrderNoBand,
     OrderNoCharge,
     ResultNoTrade,
     ResultNotSubmitted,
     ResultNoTax,
     ResultNoRate,
+    ResultNoBand,
     FeedNoSecurity,
     LookupNoTrade,
 }

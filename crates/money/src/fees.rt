@@ -6,11 +6,13 @@ ghost use lib.IntN.{pos};
 ghost use Rattle.record.specs.Signed.{up};
 ghost use Rattle.units.specs.Units.{cents};
 ghost use Rattle.rules.specs.Ranges.{commissionPart, fee, priceMost, sharesMost, taxPart};
+ghost use Rattle.model.specs.Band.{commissionRate};
 ghost use Rattle.model.specs.Money.{commissionOf, taxOf, taxable, untaxed};
 ghost use Rattle.money.specs.Amounts.{UpTo, valueMost};
 use crate::parts::part;
 use crate::parts::times;
 use kinds::limits::Ranges;
+use model::BandAnswer;
 use units::Cents;
 use units::PerHundredThousand;
 use units::PerTenThousand;
@@ -49,6 +51,17 @@ pub fn untaxed(tax_status: u8, rates: PerHundredThousand, bought: Cents, sold: C
     ensures { λ r. ⌜ r ≡ untaxed «tax_status» (rates .0) (up (bought .0)) (up (sold .0)) ⌝ }
 {
     taxable(tax_status, bought, sold) & (rates.0 == 0)
+}
+
+// The rate that a commission goes by: a trade that has none is refused, so none is charged.
+pub fn commission_rate(band: BandAnswer) -> PerTenThousand
+    ensures { λ r. ⌜ r .0 ≡ commissionRate band ⌝ }
+{
+    match band {
+        BandAnswer::Rate(rate) => rate,
+        BandAnswer::ZeroRate => PerTenThousand(0),
+        BandAnswer::NoBand => PerTenThousand(0),
+    }
 }
 
 pub fn commission(rate: PerTenThousand, shares: Shares, price: Price) -> Cents

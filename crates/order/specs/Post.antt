@@ -16,6 +16,7 @@ use Rattle.record.specs.declared.row.Row.{Row}
 use Rattle.units.specs.Units.{cents, low}
 use Rattle.kinds.specs.Written.{requestRow, tradeHistoryRow, tradeRow}
 use Rattle.kinds.specs.declared.inputs.OrderInput.{OrderInput}
+use Rattle.model.specs.Band.{commissionRate}
 use Rattle.model.specs.Flags.{rollBack}
 use Rattle.model.specs.Order.{answerRow}
 use Rattle.model.specs.Rows.{is, nothing, rows, sameRow}
@@ -72,7 +73,7 @@ rowsAfter rs i t e = cond (rollBack (i .flags)) rs (fill sameRow nothing (addedO
 
 unfoldable pub answerOf : Terms → Estimate → Row
 answerOf t e =
-    answerRow (t .number .0) (ofZ w64 (e .tax .0)) (low (t .charge .0)) (t .rate .0) (e .price .0)
+    answerRow (t .number .0) (ofZ w64 (e .tax .0)) (low (t .charge .0)) (commissionRate (t .band)) (e .price .0)
     (ofZ w64 (e .walk .bought .0)) (ofZ w64 (e .walk .sold .0))
 
 -- none of them is free

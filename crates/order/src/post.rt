@@ -12,6 +12,7 @@ use kinds::inputs::OrderInput;
 use kinds::rows::Request;
 use kinds::rows::Trade;
 use kinds::rows::TradeHistory;
+use money::fees::commission_rate;
 use places::place::nothing;
 use record::codes::Kind;
 use record::codes::TradeStatus;
@@ -99,12 +100,13 @@ pub fn answer_row(terms: Terms, estimate: Estimate) -> Row
     ensures { λ r. ⌜ r ≡ answerOf terms estimate ⌝ }
 {
     let w = estimate.walk;
+    let band = terms.band;
     let mut a = nothing();
     a.kind = Kind::ORDER;
     a.id = terms.number.0;
     a.symbol = Symbol::holding(estimate.tax.bits());
     a.n1 = terms.charge.low();
-    a.n2 = terms.rate.0;
+    a.n2 = commission_rate(band).0;
     a.n3 = estimate.price.0;
     a.m1 = w.bought.bits();
     a.m2 = w.sold.bits();

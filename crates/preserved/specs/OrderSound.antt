@@ -15,6 +15,7 @@ use Rattle.rules.specs.Meaning.{means-charge, means-fits, means-order-input, me
 use Rattle.rules.specs.Ranges.{charged, fee, priceMost, tradeNumber}
 use Rattle.rules.specs.Rules.{as-kind, orderInput}
 use Rattle.model.specs.Status.{isDone}
+use Rattle.model.specs.Band.{commissionRate}
 use Rattle.model.specs.Flags.{rollBack}
 use Rattle.model.specs.Money.{commissionOf}
 use Rattle.model.specs.Names.{aCharge, aCustomer, aSecurity, anAccount}
@@ -58,8 +59,8 @@ passed-all rs input k =
     record {
       account = not-true (is kindFree (v .account)) (p .0);
       security = not-true (is kindFree (v .security)) (p .1 .0);
-      number = leb-true (v .number) (tradeNumber .high) (p .1 .1 .1 .1 .1 .0);
-      space = leb-true (length (posting input v .added)) (room rs) (p .1 .1 .1 .1 .1 .1 .0);
+      number = leb-true (v .number) (tradeNumber .high) (p .1 .1 .1 .1 .1 .1 .0);
+      space = leb-true (length (posting input v .added)) (room rs) (p .1 .1 .1 .1 .1 .1 .1 .0);
       rows = ap (λ (x : Outcome). x .rows) (decided-done cs rs o d);
     }
 
@@ -71,7 +72,7 @@ module _ (rs : List Row) (input : Row) (good : sound rs ≡ true) (right : order
   cost = priceUsed input v
 
   abbrev commission : ℕ
-  commission = commissionOf (v .rate) (input .n1) cost
+  commission = commissionOf (commissionRate (v .band)) (input .n1) cost
 
   abbrev hs : List Row
   hs = addedRows input (v .account .n1) (v .number) cost (v .charge) commission
@@ -124,7 +125,7 @@ module _ (rs : List Row) (input : Row) (good : sound rs ≡ true) (right : order
       let tier = found (aCustomer (v .account .n2)) rs .form in
       let rate = rate-most rs (input .form) tier (v .security .form) (input .n1) (sound-s1 rs good) in
       let many = means-order-input input .shows right .0 .0 .2 .2 .2 .2 .2 .2 .2 .1 in
-      let taken = commission-taken (v .rate) (input .n1) cost rate many cost-most in
+      let taken = commission-taken (commissionRate (v .band)) (input .n1) cost rate many cost-most in
       omega (arith, taken .0, taken .1)
 
   taken : Passed rs input → Taken rs input (v .account .n1) (v .number) cost (v .charge) commission

@@ -68,8 +68,8 @@ module _ (rs : List Row) (input : Row) where
       record {
         live = not-true (is kindFree (view rs input .trade)) (p .0);
         sent = eqb-true (view rs input .trade .status) submitted (p .1 .0);
-        within = p .1 .1 .1 .1 .0;
-        space = leb-true (length (postingOf rs input .added)) (room rs) (p .1 .1 .1 .1 .1 .0);
+        within = p .1 .1 .1 .1 .1 .0;
+        space = leb-true (length (postingOf rs input .added)) (room rs) (p .1 .1 .1 .1 .1 .1 .0);
         answer = ap (λ (o : Outcome). o .answer) done;
         rows = ap (λ (o : Outcome). o .rows) done;
       }

@@ -14,6 +14,7 @@ use Rattle.record.specs.declared.row.Row.{Row}
 use Rattle.rules.specs.Meaning.{means-result-input}
 use Rattle.rules.specs.Ranges.{brokerTrades, commissionTotal, fee, moneyMost, priceMost, sharesMost}
 use Rattle.rules.specs.Rules.{resultInput}
+use Rattle.model.specs.Band.{commissionRate}
 use Rattle.model.specs.Names.{aBroker}
 use Rattle.model.specs.Result.{figures, posting, view, sumsOf}
 use Rattle.model.specs.Rows.{found, mostRecords}
@@ -42,7 +43,7 @@ module _ (rs : List Row) (input : Row) (good : sound rs ≡ true) (right : resul
   unfolding figures
   commission-most =
       let v = view rs input in
-      commission-in-range (v .rate) (v .trade .n1) (input .n1) (rate-near rs input good) (shares-near rs input good)
+      commission-in-range (commissionRate (v .band)) (v .trade .n1) (input .n1) (rate-near rs input good) (shares-near rs input good)
       (price-fits input right)
 
   tax-most : figures input (view rs input) .tax ≤ fee .high

@@ -19,12 +19,12 @@ use Rattle.kinds.specs.declared.rows.Broker.{Broker}
 use Rattle.kinds.specs.declared.rows.Summary.{Summary}
 use Rattle.kinds.specs.declared.rows.Trade.{Trade}
 use Rattle.units.specs.declared.PerHundredThousand.{PerHundredThousand}
-use Rattle.units.specs.declared.PerTenThousand.{PerTenThousand}
 use Rattle.rules.specs.Meaning.{means-result-input}
 use Rattle.rules.specs.Rules.{resultInput}
 use Rattle.rules.specs.Typed.{written}
 use Rattle.keys.specs.declared.Key.{Key}
-use Rattle.model.specs.Band.{bandRate}
+use Rattle.model.specs.declared.BandAnswer.{BandAnswer}
+use Rattle.model.specs.Band.{bandAnswer}
 use Rattle.model.specs.Names.{aBroker, aCustomer, aSecurity, aSummary, aTrade, anAccount}
 use Rattle.model.specs.Result.{view}
 use Rattle.model.specs.Rows.{found, hasKey, is, rows, there}
@@ -56,9 +56,6 @@ placesOf rs number =
     }
 
 -- ---- all that is read
-abbrev pub perTenThousand : ℕ → PerTenThousand
-perTenThousand x = record { 0 = x }
-
 abbrev pub perHundredThousand : ℕ → PerHundredThousand
 perHundredThousand x = record { 0 = x }
 
@@ -78,7 +75,7 @@ termsOf rs input =
       summary = summaryOf (v .summary);
       broker = brokerOf (brokerRead rs input);
       rates = perHundredThousand (v .rates);
-      rate = perTenThousand (v .rate);
+      band = v .band;
     }
 
 -- what is found is nothing exactly where it is not there
@@ -106,11 +103,11 @@ places-are b n {x} {a} {s} {k} {t} {c} x-is t-is a-is c-is s-is k-is =
     rw (k-is, held, s-is, own, at, x-is)
 
 pub terms-are : (b : List ℕ) (i : ResultInput) {p : Places} {e : ℕ} {t : Trade} {a : Account} {s : Summary} {k : Broker}
-    {y : PerHundredThousand} {z : PerTenThousand} → p ≡ placesOf (rows b) (i .trade .0)
+    {y : PerHundredThousand} {z : BandAnswer} → p ≡ placesOf (rows b) (i .trade .0)
     → e ≡ places b → t ≡ tradeOf (rowAt b (p .trade)) → a ≡ accountOf (rowAt b (p .account))
     → s ≡ summaryOf (rowAt b (p .summary)) → k ≡ brokerOf (rowAt b (p .broker))
     → y .0 ≡ ratesOf (rows b) (a .customer .0)
-    → z .0 ≡ bandRate (rows b) (t .«trade_type») (found (aCustomer (a .customer .0)) (rows b) .form)
+    → z ≡ bandAnswer (rows b) (t .«trade_type») (found (aCustomer (a .customer .0)) (rows b) .form)
     (found (aSecurity (t .symbol)) (rows b) .form) (up (t .shares .0))
     → _≡_ {A = Terms}
     (record {
@@ -122,7 +119,7 @@ pub terms-are : (b : List ℕ) (i : ResultInput) {p : Places} {e : ℕ} {t : Tra
       summary = s;
       broker = k;
       rates = y;
-      rate = z;
+      band = z;
     })
     (termsOf (rows b) (inputRow i))
 unfolding termsOf placesOf view accountOf tradeOf
@@ -150,8 +147,8 @@ terms-are b i {p} {e} {t} {a} {s} {k} {y} {z} p-is e-is t-is a-is s-is k-is y-is
     rw e-is (key-there sk b (ap (λ (q : Places). q .summary) p-is)) ∙ there-live sk rs refl
     in
     let ys : y ≡ perHundredThousand (ratesOf rs (ar .n2)) = ap perHundredThousand (y-is ∙ rw held) in
-    let zs : z ≡ perTenThousand (bandRate rs (tr .form) (found (aCustomer (ar .n2)) rs .form)
-    (found (aSecurity (tr .symbol)) rs .form) (tr .n1)) =
-    ap perTenThousand (z-is ∙ rw (own, held))
+    let zs : z ≡ bandAnswer rs (tr .form) (found (aCustomer (ar .n2)) rs .form)
+    (found (aSecurity (tr .symbol)) rs .form) (tr .n1) =
+    z-is ∙ rw (own, held)
     in
     rw (known, some, own, held, sums, deals, ys, zs, p-is)

@@ -4,7 +4,7 @@ ghost use mathlib.Core.Bool.{true};
 ghost use mathlib.Core.Path.{_≡_};
 ghost use Rattle.record.specs.Signed.{up};
 ghost use Rattle.kinds.specs.Kinds.{accountOf, brokerOf, summaryOf, tradeOf};
-ghost use Rattle.model.specs.Band.{bandRate};
+ghost use Rattle.model.specs.Band.{bandAnswer};
 ghost use Rattle.model.specs.Names.{aCustomer, aSecurity};
 ghost use Rattle.model.specs.Rows.{found, rows};
 ghost use Rattle.model.specs.Sound.{sound};
@@ -13,7 +13,7 @@ ghost use Rattle.directory.specs.Listed.{Listed};
 ghost use Rattle.reading.specs.Terms.{inputRow, placesOf, termsOf};
 use directory::build::places;
 use directory::typed;
-use groups::band::rate;
+use groups::band;
 use groups::sums::tax_rates;
 use kinds::inputs::ResultInput;
 use kinds::rows::Account;
@@ -22,11 +22,11 @@ use kinds::rows::Customer;
 use kinds::rows::Security;
 use kinds::rows::Summary;
 use kinds::rows::Trade;
+use model::BandAnswer;
 use places::place::record_at;
 use record::symbol::Symbol;
 use units::CustomerNo;
 use units::PerHundredThousand;
-use units::PerTenThousand;
 use units::TradeNo;
 
 // Where the rows of a result stand, but for its lots; the number of places where there is none.
@@ -48,7 +48,7 @@ pub struct Terms {
     pub summary: Summary,
     pub broker: Broker,
     pub rates: PerHundredThousand,
-    pub rate: PerTenThousand,
+    pub band: BandAnswer,
 }
 
 fn trade_at(book: &[u8], i: usize) -> Trade
@@ -95,17 +95,17 @@ fn exchange(book: &[u8], dir: &[u16], symbol: Symbol) -> u8
     Security::from_bytes(&record).exchange
 }
 
-// The commission rate of a trade of a customer's account.
-fn rate_of(book: &[u8], dir: &[u16], trade: Trade, customer: CustomerNo) -> PerTenThousand
+// The commission band of a trade of a customer's account.
+fn band_of(book: &[u8], dir: &[u16], trade: Trade, customer: CustomerNo) -> BandAnswer
     requires { ⌜ Listed (now book) (now dir) ⌝ }
     ensures { λ r.
         let rs = rows (now (book .entry)) in
-        ⌜ r .0 ≡ bandRate rs (trade .«trade_type») (found (aCustomer (customer .0)) rs .form)
+        ⌜ r ≡ bandAnswer rs (trade .«trade_type») (found (aCustomer (customer .0)) rs .form)
         (found (aSecurity (trade .symbol)) rs .form) (up (trade .shares .0)) ⌝ }
 {
     let of = tier(book, dir, customer);
     let at = exchange(book, dir, trade.symbol);
-    rate(book, dir, trade.trade_type, of, at, trade.shares)
+    band::search(book, dir, trade.trade_type, of, at, trade.shares)
 }
 
 fn places_of(book: &[u8], dir: &[u16], no: TradeNo) -> Places
@@ -142,6 +142,6 @@ pub fn terms_of(book: &[u8], dir: &[u16], input: ResultInput) -> Terms
         summary: summary_at(book, at.summary),
         broker: broker_at(book, at.broker),
         rates: tax_rates(book, dir, account.customer),
-        rate: rate_of(book, dir, trade, account.customer),
+        band: band_of(book, dir, trade, account.customer),
     }
 }

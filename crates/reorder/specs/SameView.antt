@@ -15,7 +15,7 @@ use Rattle.record.specs.Symbol.{sameSymbol}
 use Rattle.keys.specs.declared.Key.{Key}
 use Rattle.record.specs.declared.row.Row.{Row}
 use Rattle.record.specs.declared.symbol.Symbol.{Symbol}
-use Rattle.model.specs.Band.{bandFor, bandRate}
+use Rattle.model.specs.Band.{answerOf, bandAnswer, bandFor}
 use Rattle.model.specs.Flags.{lifo}
 use Rattle.model.specs.Lots.{before, closes, lotsFor}
 use Rattle.model.specs.Money.{buys}
@@ -87,10 +87,10 @@ module _ (own : ℕ → ℕ) (a : ℕ) (s t : List Row) (good : sound t ≡ true
       (λ x off. none x (λ k. no off (common kindCustomerRate (refl, refl, refl, refl) x k))) s t h)
 
   band-same : (form tier exchange shares : ℕ)
-      → bandRate s form tier exchange shares ≡ bandRate t form tier exchange shares
-  unfolding bandRate
+      → bandAnswer s form tier exchange shares ≡ bandAnswer t form tier exchange shares
+  unfolding bandAnswer
   band-same form tier exchange shares =
-      ap (λ (r : Row). r .n3)
+      ap answerOf
       (the-agree sameRow same-rows row-itself (λ r. bandFor form tier exchange shares r) (mine own a) nothing
       (λ x e.
       common kindBand (refl, refl, refl, refl) x (means-band form tier exchange shares x .shows e .0 .0 .0 .0 .0))
@@ -129,8 +129,8 @@ module _ (own : ℕ → ℕ) (a : ℕ) (s t : List Row) (good : sound t ≡ true
     account = a;
     summary = found (aSummary (t .party) (t .symbol)) rs;
     rates = ratesOf rs (a .n2);
-    rate =
-        bandRate rs (t .form) (found (aCustomer (a .n2)) rs .form) (found (aSecurity (t .symbol)) rs .form) (t .n1);
+    band =
+        bandAnswer rs (t .form) (found (aCustomer (a .n2)) rs .form) (found (aSecurity (t .symbol)) rs .form) (t .n1);
     lots = lotsFor rs (t .form) (t .flags) (t .party) (t .symbol);
   }
 
@@ -138,17 +138,17 @@ module _ (own : ℕ → ℕ) (a : ℕ) (s t : List Row) (good : sound t ≡ true
   same-seen r c e =
       let tier = found-common (aCustomer (c .n2)) refl (refl, refl, refl, refl) in
       let exchange = found-common (aSecurity (r .symbol)) refl (refl, refl, refl, refl) in
-      let rate =
+      let band =
       band-same (r .form) (found (aCustomer (c .n2)) s .form) (found (aSecurity (r .symbol)) s .form) (r .n1)
-      ∙ ap (λ (x : Row). bandRate t (r .form) (x .form) (found (aSecurity (r .symbol)) s .form) (r .n1)) tier
-      ∙ ap (λ (x : Row). bandRate t (r .form) (found (aCustomer (c .n2)) t .form) (x .form) (r .n1)) exchange
+      ∙ ap (λ (x : Row). bandAnswer t (r .form) (x .form) (found (aSecurity (r .symbol)) s .form) (r .n1)) tier
+      ∙ ap (λ (x : Row). bandAnswer t (r .form) (found (aCustomer (c .n2)) t .form) (x .form) (r .n1)) exchange
       in
       λ i. record {
         trade = r;
         account = c;
         summary = summary-same (r .party) (r .symbol) e i;
         rates = rates-same (c .n2) i;
-        rate = rate i;
+        band = band i;
         lots = lots-same (r .form) (r .flags) (r .party) (r .symbol) e i;
       }
 

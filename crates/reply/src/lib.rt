@@ -1,14 +1,16 @@
 // How a call ends: the first check that fails, the number of its status, and the answer of a refusal.
 ghost use mathlib.Core.Path.{_≡_};
-ghost use mathlib.Core.Bool.{Bool};
+ghost use mathlib.Core.Bool.{Bool, not};
 ghost use Prim.Native.Nat.{_≤_};
 ghost use lib.ListN.{length, replicate};
+ghost use Rattle.model.specs.Band.{noBand, zeroRate};
 ghost use Rattle.model.specs.Status.{isDone, number};
 ghost use Rattle.model.specs.Call.{either, refusalArea};
 ghost use Rattle.model.specs.Rows.{recordSize};
 ghost use Rattle.model.specs.Plan.{also};
 ghost use Rattle.reply.specs.Refusal.{refusal};
 use directory::totals::Totals;
+use model::BandAnswer;
 use model::Status;
 use places::place::nothing;
 use places::put::put;
@@ -37,11 +39,13 @@ pub fn code(s: Status) -> i32
         Status::OrderNoSecurity => -712,
         Status::OrderNoTax => -731,
         Status::OrderNoRate => -732,
+        Status::OrderNoBand => -735,
         Status::OrderNoCharge => -733,
         Status::ResultNoTrade => -811,
         Status::ResultNotSubmitted => -812,
         Status::ResultNoTax => -831,
         Status::ResultNoRate => -841,
+        Status::ResultNoBand => -842,
         Status::FeedNoSecurity => -311,
         Status::LookupNoTrade => -611,
     }
@@ -86,6 +90,17 @@ pub fn also(s: Status, passes: bool, otherwise: Status) -> Status
     ensures { λ r. ⌜ r ≡ also s passes otherwise ⌝ }
 {
     if done(s) & !passes { otherwise } else { s }
+}
+
+// The status so far, and what the search for a band answered: a rate of zero and no band each have their own status.
+pub fn also_rated(s: Status, band: BandAnswer, no_rate: Status, no_band: Status) -> Status
+    ensures { λ r. ⌜ r ≡ also (also s (not (zeroRate band)) «no_rate») (not (noBand band)) «no_band» ⌝ }
+{
+    match band {
+        BandAnswer::Rate(_) => s,
+        BandAnswer::ZeroRate => also(s, false, no_rate),
+        BandAnswer::NoBand => also(s, false, no_band),
+    }
 }
 
 // The end of a call: a refusal writes its status and zeros over whatever the answer area holds.

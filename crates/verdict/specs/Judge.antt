@@ -26,8 +26,9 @@ use Rattle.rules.specs.Ranges.{brokerTrades, commissionTotal, fee, moneyMost}
 use Rattle.rules.specs.Rules.{as-kind}
 use Rattle.rules.specs.Signed.{near}
 use Rattle.model.specs.declared.Status.{Status}
-use Rattle.model.specs.declared.Status.the-variants.{Done, NoRoom, OverLimit, ResultNoRate, ResultNoTax}
-use Rattle.model.specs.declared.Status.the-variants.{ResultNoTrade, ResultNotSubmitted}
+use Rattle.model.specs.declared.Status.the-variants.{Done, NoRoom, OverLimit, ResultNoBand, ResultNoRate}
+use Rattle.model.specs.declared.Status.the-variants.{ResultNoTax, ResultNoTrade, ResultNotSubmitted}
+use Rattle.model.specs.Band.{noBand, zeroRate}
 use Rattle.model.specs.Flags.{cash}
 use Rattle.model.specs.Names.{aBroker}
 use Rattle.model.specs.Status.{isDone}
@@ -65,7 +66,7 @@ judgment t f free =
     let a = also Done (t .known) ResultNoTrade in
     let b = also a (eqb (t .trade .status) submitted) ResultNotSubmitted in
     let c = also b (not (f .untaxed)) ResultNoTax in
-    let d = also c (leb 1 (t .rate .0)) ResultNoRate in
+    let d = also (also c (not (zeroRate (t .band))) ResultNoRate) (not (noBand (t .band))) ResultNoBand in
     let e = also d (inRange (t .broker) (f .balance) (f .commission)) OverLimit in
     also e (leb (rowsAdded t f) free) NoRoom
 
@@ -176,6 +177,6 @@ passed-all rs input d =
     record {
       there = not-true (is kindFree (view rs input .trade)) (p .0);
       sent = eqb-true (view rs input .trade .status) submitted (p .1 .0);
-      within = p .1 .1 .1 .1 .0;
-      room = rw (← how-many rs input) (leb-true n (room rs) (p .1 .1 .1 .1 .1 .0));
+      within = p .1 .1 .1 .1 .1 .0;
+      room = rw (← how-many rs input) (leb-true n (room rs) (p .1 .1 .1 .1 .1 .1 .0));
     }

@@ -17,6 +17,7 @@ use reading::terms::Terms;
 use record::bytes::bits64;
 use record::codes::TradeStatus;
 use reply::also;
+use reply::also_rated;
 use rules::limited::near64;
 use units::Cents;
 use units::Shares;
@@ -76,6 +77,7 @@ pub fn judge(free: usize, terms: Terms, figures: Figures) -> Status
     requires { ⌜ (up (figures .commission .0) ≤ fee .high) × (figures .walk .closed ≤ mostRecords) ⌝ }
     ensures { λ s. ⌜ s ≡ judgment terms figures free ⌝ }
 {
+    let band = terms.band;
     let s1 = also(Status::Done, terms.known, Status::ResultNoTrade);
     let s2 = also(
         s1,
@@ -83,7 +85,7 @@ pub fn judge(free: usize, terms: Terms, figures: Figures) -> Status
         Status::ResultNotSubmitted,
     );
     let s3 = also(s2, !figures.untaxed, Status::ResultNoTax);
-    let s4 = also(s3, 1 <= terms.rate.0, Status::ResultNoRate);
+    let s4 = also_rated(s3, band, Status::ResultNoRate, Status::ResultNoBand);
     let fits = in_range(terms.broker, figures.balance, figures.commission);
     let s5 = also(s4, fits, Status::OverLimit);
     also(s5, rows_added(terms, figures) <= free, Status::NoRoom)

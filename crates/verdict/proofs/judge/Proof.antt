@@ -7,13 +7,13 @@ use Rattle.verdict.proofs.judge.Tie as tie
 returns : tie.Need-returns
 unfolding judgment
 returns c =
-    let third = c .before .before .before .before .before .before in
+    let third = c .before .before .before .before .before in
     rw (
-      c .also6 .ensures,
+      c .also5 .ensures,
       c .before .rows-added .ensures,
-      c .before .before .also5 .ensures,
+      c .before .before .also4 .ensures,
       c .before .before .before .in-range .ensures,
-      c .before .before .before .before .also4 .ensures,
+      c .before .before .before .before .also-rated .ensures,
       third .also3 .ensures,
       third .before .before .also2 .ensures,
       third .before .before .before .before .also .ensures,

@@ -23,15 +23,15 @@ add-t13 c =
 
 returns : tie.Need-returns
 returns c =
-    let rate = c .before in
-    let rates = rate .before in
+    let band = c .before in
+    let rates = band .before in
     let charge = rates .before in
     let tier = charge .before in
     let paper = tier .before .before in
     let holder = paper .before in
     let start = holder .before .before .before in
     terms-are _ (start .args .input) (holder .holder-of .ensures) (paper .paper-of .ensures) (tier .tier-of .ensures)
-    (charge .charge-of .ensures) (rates .tax-rates .ensures) (rate .rate .ensures) (start .pre .0 .largest)
+    (charge .charge-of .ensures) (rates .tax-rates .ensures) (band .search .ensures) (start .pre .0 .largest)
 
 pub terms-of-spec : {M : Type 1} → statement M
 terms-of-spec =

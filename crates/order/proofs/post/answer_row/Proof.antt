@@ -7,12 +7,14 @@ use Rattle.order.proofs.post.answer_row.Tie as tie
 returns : tie.Need-returns
 unfolding answerOf
 returns c =
-    let tax = c .before .before .before .before in
+    let rate = c .before .before in
+    let tax = rate .before .before .before in
     rw (
       tax .before .nothing .ensures,
-      c .before .before .before .holding .ensures,
+      rate .before .before .holding .ensures,
       tax .bits .ensures,
-      c .before .before .low .ensures,
+      rate .before .low .ensures,
+      rate .commission-rate .ensures,
       c .before .bits2 .ensures,
       c .bits3 .ensures,
     )
@@ -21,4 +23,4 @@ pub answer-row-spec : {M : Type 1} → statement M
 answer-row-spec =
     tie.close
     (tie.spec (λ c κs. search needs) (λ c κs. search needs) (λ c κs. search needs) (λ c κs. search needs)
-    (λ c κs. search needs) (λ c κs. search needs) returns)
+    (λ c κs. search needs) (λ c κs. search needs) (λ c κs. search needs) returns)

@@ -10,8 +10,8 @@ tax-rates-requires c κs =
     let start = c .before .before .before .before .before .before .before .before .before .before in
     (start .pre .0, rates-most _ _ (start .pre .1))
 
-rate-of-requires : tie.Need-rate-of-requires
-rate-of-requires c κs =
+band-of-requires : tie.Need-band-of-requires
+band-of-requires c κs =
     let start = c .before .before .before .before .before .before .before .before .before .before .before in
     start .pre .0
 
@@ -27,10 +27,10 @@ returns c =
     let start = at .before .before .before in
     terms-are _ (start .args .input) (at .places-of .ensures) (end .places .ensures)
     (trade .trade-at .ensures) (account .account-at .ensures) (summary .summary-at .ensures)
-    (broker .broker-at .ensures) (rates .tax-rates .ensures) (c .rate-of .ensures)
+    (broker .broker-at .ensures) (rates .tax-rates .ensures) (c .band-of .ensures)
 
 pub terms-of-spec : {M : Type 1} → statement M
 terms-of-spec =
     tie.close
     (tie.spec (λ c κs. search needs) (λ c κs. search needs) (λ c κs. search needs) (λ c κs. search needs)
-    (λ c κs. search needs) (λ c κs. search needs) tax-rates-requires rate-of-requires returns)
+    (λ c κs. search needs) (λ c κs. search needs) tax-rates-requires band-of-requires returns)
