@@ -196,12 +196,14 @@ extern "C" {
 #define BOOK_ORDER_NO_ACCOUNT -711     /**< order: no such account */
 #define BOOK_ORDER_NO_SECURITY -712    /**< order: no such security */
 #define BOOK_ORDER_NO_TAX -731         /**< order: gain and tax status 1 or 2, yet the customer's rates sum to 0 */
-#define BOOK_ORDER_NO_RATE -732        /**< order: rate 0 or no band */
+#define BOOK_ORDER_NO_RATE -732        /**< order: the band's rate is 0 */
+#define BOOK_ORDER_NO_BAND -735        /**< order: no band holds the shares */
 #define BOOK_ORDER_NO_CHARGE -733      /**< order: charge 0 or no row */
 #define BOOK_RESULT_NO_TRADE -811      /**< result: no such trade */
 #define BOOK_RESULT_NOT_SUBMITTED -812 /**< result: the trade's status is not 2, submitted */
 #define BOOK_RESULT_NO_TAX -831        /**< result: gain and tax status 1 or 2, yet the customer's rates sum to 0 */
-#define BOOK_RESULT_NO_RATE -841       /**< result: rate 0 or no band */
+#define BOOK_RESULT_NO_RATE -841       /**< result: the band's rate is 0 */
+#define BOOK_RESULT_NO_BAND -842       /**< result: no band holds the shares */
 #define BOOK_FEED_NO_SECURITY -311     /**< feed: an entry's security is unknown */
 #define BOOK_LOOKUP_NO_TRADE -611      /**< lookup: a trade is unknown */
 #define BOOK_OVER_LIMIT -104           /**< trade number, balance, broker's trades or commission total, or volume
@@ -299,9 +301,9 @@ extern "C" {
  * @return the status
  *
  * Statuses, in the order of checking: BOOK_BAD_LENGTH, BOOK_BAD_BOOK, BOOK_UNSOUND, BOOK_BAD_INPUT,
- * BOOK_ORDER_NO_ACCOUNT, BOOK_ORDER_NO_SECURITY, BOOK_ORDER_NO_TAX, BOOK_ORDER_NO_RATE, BOOK_ORDER_NO_CHARGE,
- * BOOK_OVER_LIMIT (the trade's number would be above 999,999,999,999,999), BOOK_NO_ROOM, BOOK_DONE. With roll back
- * they are the same.
+ * BOOK_ORDER_NO_ACCOUNT, BOOK_ORDER_NO_SECURITY, BOOK_ORDER_NO_TAX, BOOK_ORDER_NO_RATE, BOOK_ORDER_NO_BAND,
+ * BOOK_ORDER_NO_CHARGE, BOOK_OVER_LIMIT (the trade's number would be above 999,999,999,999,999), BOOK_NO_ROOM,
+ * BOOK_DONE. With roll back they are the same.
  *
  * The trade's number is one more than the largest trade number of the book, or 1 if it has no trade. The price used is
  * the security's last price for types 1 and 2, and the bid for the others. The estimates are made at that price:
@@ -312,7 +314,7 @@ extern "C" {
  * - The tax is (sold - bought) * sum of the customer's rates / 100,000 for an account of tax status 1 or 2 with
  *   sold > bought, else 0. The commission is rate * shares * price / 10,000, by the band of the order's type, the
  *   customer's tier and the security's exchange that holds the shares. Both are rounded to the nearest cent,
- *   halves up.
+ *   halves up. BOOK_ORDER_NO_BAND: the book has no such band. BOOK_ORDER_NO_RATE: it has one, whose rate (n3) is 0.
  * - The charge is that of the order's type and the customer's tier.
  *
  * On BOOK_DONE without roll back these rows were added, on the lowest free places and in this order:
@@ -349,9 +351,9 @@ int32_t book_order(uint8_t *book, size_t book_len, const uint8_t *input, size_t 
  * @return the status
  *
  * Statuses, in the order of checking: BOOK_BAD_LENGTH, BOOK_BAD_BOOK, BOOK_UNSOUND, BOOK_BAD_INPUT,
- * BOOK_RESULT_NO_TRADE, BOOK_RESULT_NOT_SUBMITTED, BOOK_RESULT_NO_TAX, BOOK_RESULT_NO_RATE, BOOK_OVER_LIMIT (the
- * broker's trades would be above 999,999,999, its commission total above 999,999,999,999,999, or the balance, if the
- * trade is cash, outside -999,999,999,999,999..999,999,999,999,999), BOOK_NO_ROOM, BOOK_DONE.
+ * BOOK_RESULT_NO_TRADE, BOOK_RESULT_NOT_SUBMITTED, BOOK_RESULT_NO_TAX, BOOK_RESULT_NO_RATE, BOOK_RESULT_NO_BAND,
+ * BOOK_OVER_LIMIT (the broker's trades would be above 999,999,999, its commission total above 999,999,999,999,999, or
+ * the balance, if the trade is cash, outside -999,999,999,999,999..999,999,999,999,999), BOOK_NO_ROOM, BOOK_DONE.
  *
  * What the trade comes to:
  * - A sell closes the account's positive lots of the symbol, a buy its negative ones, by rising time and then trade
@@ -361,7 +363,7 @@ int32_t book_order(uint8_t *book, size_t book_len, const uint8_t *input, size_t 
  * - The tax is (sold - bought) * sum of the customer's rates / 100,000 for an account of tax status 1 or 2 with
  *   sold > bought, else 0. The commission is rate * shares * price / 10,000, by the band of the trade's type, the
  *   customer's tier and the security's exchange that holds the trade's shares. Both are rounded to the nearest cent,
- *   halves up.
+ *   halves up. BOOK_RESULT_NO_BAND: the book has no such band. BOOK_RESULT_NO_RATE: it has one, whose rate (n3) is 0.
  * - The settlement is shares * price - charge - commission for a sell, and -(shares * price + charge + commission)
  *   for a buy, by the charge that the trade's row has; less the tax for an account of tax status 1 alone.
  *

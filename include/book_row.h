@@ -170,12 +170,14 @@ static inline const char *book_status_text(int32_t status)
     case BOOK_ORDER_NO_ACCOUNT: return "order: no such account";
     case BOOK_ORDER_NO_SECURITY: return "order: no such security";
     case BOOK_ORDER_NO_TAX: return "order: gain and tax status 1 or 2, yet the customer's rates sum to 0";
-    case BOOK_ORDER_NO_RATE: return "order: rate 0 or no band";
+    case BOOK_ORDER_NO_RATE: return "order: the band's rate is 0";
+    case BOOK_ORDER_NO_BAND: return "order: no band holds the shares";
     case BOOK_ORDER_NO_CHARGE: return "order: charge 0 or no row";
     case BOOK_RESULT_NO_TRADE: return "result: no such trade";
     case BOOK_RESULT_NOT_SUBMITTED: return "result: the trade's status is not 2, submitted";
     case BOOK_RESULT_NO_TAX: return "result: gain and tax status 1 or 2, yet the customer's rates sum to 0";
-    case BOOK_RESULT_NO_RATE: return "result: rate 0 or no band";
+    case BOOK_RESULT_NO_RATE: return "result: the band's rate is 0";
+    case BOOK_RESULT_NO_BAND: return "result: no band holds the shares";
     case BOOK_FEED_NO_SECURITY: return "feed: an entry's security is unknown";
     case BOOK_LOOKUP_NO_TRADE: return "lookup: a trade is unknown";
     case BOOK_OVER_LIMIT:
@@ -199,11 +201,13 @@ static inline const char *book_status_name(int32_t status)
     BOOK_NAME_(BOOK_ORDER_NO_SECURITY);
     BOOK_NAME_(BOOK_ORDER_NO_TAX);
     BOOK_NAME_(BOOK_ORDER_NO_RATE);
+    BOOK_NAME_(BOOK_ORDER_NO_BAND);
     BOOK_NAME_(BOOK_ORDER_NO_CHARGE);
     BOOK_NAME_(BOOK_RESULT_NO_TRADE);
     BOOK_NAME_(BOOK_RESULT_NOT_SUBMITTED);
     BOOK_NAME_(BOOK_RESULT_NO_TAX);
     BOOK_NAME_(BOOK_RESULT_NO_RATE);
+    BOOK_NAME_(BOOK_RESULT_NO_BAND);
     BOOK_NAME_(BOOK_FEED_NO_SECURITY);
     BOOK_NAME_(BOOK_LOOKUP_NO_TRADE);
     BOOK_NAME_(BOOK_OVER_LIMIT);

@@ -26,6 +26,7 @@ static const int32_t of_order[] = {SHARED,
                                    BOOK_ORDER_NO_SECURITY,
                                    BOOK_ORDER_NO_TAX,
                                    BOOK_ORDER_NO_RATE,
+                                   BOOK_ORDER_NO_BAND,
                                    BOOK_ORDER_NO_CHARGE,
                                    BOOK_OVER_LIMIT,
                                    BOOK_NO_ROOM};
@@ -34,6 +35,7 @@ static const int32_t of_result[] = {SHARED,
                                     BOOK_RESULT_NOT_SUBMITTED,
                                     BOOK_RESULT_NO_TAX,
                                     BOOK_RESULT_NO_RATE,
+                                    BOOK_RESULT_NO_BAND,
                                     BOOK_OVER_LIMIT,
                                     BOOK_NO_ROOM};
 

@@ -155,16 +155,16 @@ static void large_gain(const struct gain *gain, uint8_t type, uint8_t tax_status
     booked(gain->name);
 }
 
-/* Each fault comes before those that were there already. */
-static void check_order_of_checking(void)
+/* Each fault comes before those that were there already. The band's is that this field has this value. */
+static void check_order_of_checking(const char *name, size_t at, uint32_t value, int32_t status)
 {
     stand_gain(2000, 1, 0);
     row_at(&book, STANDING)[BOOK_AT_TYPE] = BOOK_TMS;
     not_booked("no room", BOOK_NO_ROOM);
     put(row_at(&book, AT_BROKER), BOOK_AT_N1, 4, 999999999);
     not_booked("and the broker has all trades that it may have", BOOK_OVER_LIMIT);
-    put(row_at(&book, band_at(BOOK_TMS)), BOOK_AT_N3, 4, 0);
-    not_booked("and a rate of 0", BOOK_RESULT_NO_RATE);
+    put(row_at(&book, band_at(BOOK_TMS)), at, 4, value);
+    not_booked(name, status);
     put(row_at(&book, AT_TAX_RATE), BOOK_AT_N1, 4, 0);
     not_booked("and a gain with rates of 0", BOOK_RESULT_NO_TAX);
     ask(10, PRICE, TIME);
@@ -234,6 +234,9 @@ static void check_in_turn(void)
     done("an order of 120", BOOK_KIND_ORDER);
     book = book_after;
     ask(TRADE, PRICE, TIME);
+    put(row_at(&book, band_at(BOOK_TMS)), BOOK_AT_N2, 4, 119);
+    not_booked("and its result, if the band goes to 119 now", BOOK_RESULT_NO_BAND);
+    put(row_at(&book, band_at(BOOK_TMS)), BOOK_AT_N2, 4, 1000);
     expect_p1(1, p1);
     booked("and its result");
     book = book_after;
@@ -396,7 +399,8 @@ void check_edges(void)
     check_limits();
     check_largest_figures();
     each_gain(large_gain);
-    check_order_of_checking();
+    check_order_of_checking("and a rate of 0", BOOK_AT_N3, 0, BOOK_RESULT_NO_RATE);
+    check_order_of_checking("and no band, as it begins with 2 shares", BOOK_AT_N1, 2, BOOK_RESULT_NO_BAND);
     check_fields();
     refuses_lengths(BOOK_KIND_RESULT, begin_good, 1, 1);
     check_in_turn();

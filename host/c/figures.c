@@ -30,6 +30,16 @@ void add_rate(uint32_t customer, uint32_t party, uint32_t rate)
     put(row, BOOK_AT_N1, 4, party);
 }
 
+static void set_band(uint8_t *row, struct band band)
+{
+    row[BOOK_AT_TYPE] = band.type;
+    row[BOOK_AT_STATUS] = band.tier;
+    row[BOOK_AT_FLAGS] = band.exchange;
+    put(row, BOOK_AT_N1, 4, band.from);
+    put(row, BOOK_AT_N2, 4, band.to);
+    put(row, BOOK_AT_N3, 4, band.rate);
+}
+
 void stand(const char *letters, uint32_t last_price)
 {
     uint8_t *row, type;
@@ -52,15 +62,8 @@ void stand(const char *letters, uint32_t last_price)
     set_symbol(row, letters);
     row[BOOK_AT_TYPE] = EXCHANGE;
     put(row, BOOK_AT_N1, 4, last_price);
-    for (type = BOOK_TMB; type <= BOOK_TSL; type++) {
-        row = add(&book, BOOK_KIND_BAND);
-        row[BOOK_AT_TYPE] = type;
-        row[BOOK_AT_STATUS] = TIER;
-        row[BOOK_AT_FLAGS] = EXCHANGE;
-        put(row, BOOK_AT_N1, 4, 1);
-        put(row, BOOK_AT_N2, 4, 1000);
-        put(row, BOOK_AT_N3, 4, RATE);
-    }
+    for (type = BOOK_TMB; type <= BOOK_TSL; type++)
+        set_band(add(&book, BOOK_KIND_BAND), (struct band){type, TIER, EXCHANGE, 1, 1000, RATE});
     for (type = BOOK_TMB; type <= BOOK_TSL; type++) {
         row = add(&book, BOOK_KIND_CHARGE);
         row[BOOK_AT_TYPE] = type;
@@ -213,6 +216,88 @@ void each_gain(void (*try_gain)(const struct gain *gain, uint8_t type, uint8_t t
             try_gain(&gains[n], BOOK_TMS, tax_status);
             try_gain(&gains[n], BOOK_TMB, tax_status);
         }
+}
+
+/* A band of the sell's type, tier and exchange; one that holds its shares, but is another's. */
+#define OWN(from, to, rate) {BOOK_TMS, TIER, EXCHANGE, from, to, rate}
+#define OTHER(type, tier, exchange, rate) {type, tier, exchange, 1, 999999, rate}
+
+static const struct search searches[] = {
+    {"no band in the book", 10, NO_BAND, 0, {{0}}},
+    {"bands of other types alone", 10, NO_BAND, 0,
+     {OTHER(BOOK_TMB, TIER, EXCHANGE, 70), OTHER(BOOK_TLB, TIER, EXCHANGE, 80), OTHER(BOOK_TLS, TIER, EXCHANGE, 90),
+      OTHER(BOOK_TSL, TIER, EXCHANGE, 60)}},
+    {"bands of other tiers alone", 10, NO_BAND, 0,
+     {OTHER(BOOK_TMS, TIER - 1, EXCHANGE, 70), OTHER(BOOK_TMS, TIER + 1, EXCHANGE, 80)}},
+    {"bands of other exchanges alone", 10, NO_BAND, 0,
+     {OTHER(BOOK_TMS, TIER, EXCHANGE - 1, 70), OTHER(BOOK_TMS, TIER, EXCHANGE + 1, 80)}},
+    {"tier and exchange the other way round", 10, NO_BAND, 0, {OTHER(BOOK_TMS, EXCHANGE, TIER, 70)}},
+    {"rates of 0 of another type, tier and exchange alone", 10, NO_BAND, 0,
+     {OTHER(BOOK_TMB, TIER, EXCHANGE, 0), OTHER(BOOK_TMS, TIER - 1, EXCHANGE, 0),
+      OTHER(BOOK_TMS, TIER, EXCHANGE + 1, 0)}},
+    {"one share, from 1", 1, 50, 15, {OWN(1, 1, 50)}},
+    {"one share, from 2", 1, NO_BAND, 0, {OWN(2, 999999, 50)}},
+    {"as many shares as the band begins with", 20, 50, 300, {OWN(20, 1000, 50)}},
+    {"one share less", 19, NO_BAND, 0, {OWN(20, 1000, 50)}},
+    {"one share less, of a band with rate 0", 19, NO_BAND, 0, {OWN(20, 1000, 0)}},
+    {"as many shares as the band goes to", 1000, 50, 15000, {OWN(1, 1000, 50)}},
+    {"one share more", 1001, NO_BAND, 0, {OWN(1, 1000, 50)}},
+    {"one share more, of a band with rate 0", 1001, NO_BAND, 0, {OWN(1, 1000, 0)}},
+    {"the most shares, and the band goes to them", 999999, 1, 300000, {OWN(1, 999999, 1)}},
+    {"the most shares, and the band goes to one less", 999999, NO_BAND, 0, {OWN(1, 999998, 1)}},
+    {"the lowest rate", 10, 1, 3, {OWN(1, 1000, 1)}},
+    {"a rate of 0", 10, 0, 0, {OWN(1, 1000, 0)}},
+    {"a rate of 0 where the band begins", 20, 0, 0, {OWN(20, 1000, 0)}},
+    {"a rate of 0 where the band ends", 1000, 0, 0, {OWN(1, 1000, 0)}},
+    {"a rate of 0 for one number of shares", 10, 0, 0, {OWN(10, 10, 0)}},
+    {"the last share of the first of two bands", 9, 90, 243, {OWN(1, 9, 90), OWN(10, 1000, 60)}},
+    {"the first share of the second", 10, 60, 180, {OWN(1, 9, 90), OWN(10, 1000, 60)}},
+    {"the first of two has a rate of 0", 9, 0, 0, {OWN(1, 9, 0), OWN(10, 1000, 60)}},
+    {"the second, where the first has a rate of 0", 10, 60, 180, {OWN(1, 9, 0), OWN(10, 1000, 60)}},
+    {"the first, where the second has a rate of 0", 9, 90, 243, {OWN(1, 9, 90), OWN(10, 1000, 0)}},
+    {"the second of two has a rate of 0", 10, 0, 0, {OWN(1, 9, 90), OWN(10, 1000, 0)}},
+    {"below a gap between two bands", 9, 90, 243, {OWN(1, 9, 90), OWN(11, 1000, 60)}},
+    {"in the gap", 10, NO_BAND, 0, {OWN(1, 9, 90), OWN(11, 1000, 60)}},
+    {"in a gap between rates of 0", 10, NO_BAND, 0, {OWN(1, 9, 0), OWN(11, 1000, 0)}},
+    {"above the gap", 11, 60, 198, {OWN(1, 9, 90), OWN(11, 1000, 60)}},
+    {"the band of type, tier and exchange that holds the shares", 10, 60, 180,
+     {OTHER(BOOK_TMB, TIER, EXCHANGE, 50), OTHER(BOOK_TMS, TIER - 1, EXCHANGE, 70),
+      OTHER(BOOK_TMS, TIER, EXCHANGE + 1, 80), OWN(1, 9, 90), OWN(10, 10, 60)}},
+    {"and its rate is 0", 10, 0, 0,
+     {OTHER(BOOK_TMB, TIER, EXCHANGE, 50), OTHER(BOOK_TMS, TIER - 1, EXCHANGE, 70),
+      OTHER(BOOK_TMS, TIER, EXCHANGE + 1, 80), OWN(1, 9, 90), OWN(10, 10, 0)}},
+    {"and it alone has a rate", 10, 60, 180,
+     {OTHER(BOOK_TMB, TIER, EXCHANGE, 0), OTHER(BOOK_TMS, TIER - 1, EXCHANGE, 0),
+      OTHER(BOOK_TMS, TIER, EXCHANGE + 1, 0), OWN(1, 9, 0), OWN(10, 10, 60)}},
+};
+
+void set_bands(const struct search *search)
+{
+    size_t n;
+    for (n = 0; n < MOST_BANDS; n++) {
+        uint8_t *row = row_at(&book, AT_BANDS + n);
+        memset(row, 0, RECORD);
+        if (search->bands[n].type != 0) {
+            row[BOOK_AT_KIND] = BOOK_KIND_BAND;
+            set_band(row, search->bands[n]);
+        } else {
+            row[BOOK_AT_KIND] = BOOK_KIND_BROKER;
+            put(row, BOOK_AT_PARTY, 4, BROKER + 1 + n);
+        }
+    }
+}
+
+void each_search(void (*try_search)(const struct search *search))
+{
+    size_t n, band;
+    for (n = 0; n < sizeof searches / sizeof searches[0]; n++) {
+        struct search reverse = searches[n];
+        for (band = 0; band < MOST_BANDS; band++)
+            reverse.bands[band] = searches[n].bands[MOST_BANDS - 1 - band];
+        try_search(&searches[n]);
+        if (searches[n].bands[0].type != 0)
+            try_search(&reverse);
+    }
 }
 
 void fill_up(size_t left)

@@ -62,6 +62,27 @@ void stand_large(const struct gain *gain, uint8_t type, uint8_t tax_status);
 /* Tries each of them by a sell and by a buy, with tax status 1 and 2. */
 void each_gain(void (*try_gain)(const struct gain *gain, uint8_t type, uint8_t tax_status));
 
+/* The bands that a book has, and what a market sell of so many shares at 3,000 finds among them: a rate and so the
+   commission, a rate of 0, or NO_BAND. */
+enum { MOST_BANDS = AT_CHARGES - AT_BANDS, NO_BAND = -1 };
+struct band {
+    uint8_t type, tier, exchange;
+    uint32_t from, to, rate;
+};
+struct search {
+    const char *name;
+    uint32_t shares;
+    int32_t rate;
+    uint64_t commission;
+    struct band bands[MOST_BANDS]; /* those of type 0 are none */
+};
+
+/* Gives the book these bands in the place of its own. Brokers take the places that are left. */
+void set_bands(const struct search *search);
+
+/* Tries each of them, and again with the bands in the reverse order of places. */
+void each_search(void (*try_search)(const struct search *search));
+
 /* Adds brokers until the book has all records that there may be, but for so many free places at its end. */
 void fill_up(size_t left);
 

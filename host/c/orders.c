@@ -369,25 +369,58 @@ static void check_numbers(void)
     number_after("a number above it", MOST_NUMBER, 0);
 }
 
+/* An order that finds this among the bands. */
+static void searched(const struct search *search)
+{
+    stand("ABC", 3000);
+    set_bands(search);
+    add_free(&book, 2);
+    ask("ABC", BOOK_TMS, 0, search->shares, 0);
+    if (search->rate <= 0) {
+        not_ordered(search->name, search->rate == NO_BAND ? BOOK_ORDER_NO_BAND : BOOK_ORDER_NO_RATE);
+        return;
+    }
+    expect_market(1, 0, (struct estimate){3000, search->commission, 0, 0, 0}, STANDING, STANDING + 1);
+    put(answer_after.bytes, BOOK_AT_N2, 4, (uint64_t)search->rate);
+    ordered(search->name);
+}
+
+/* An order of this type, if its band has a rate of 0, and if that band is gone and the other types' are there. */
+static void without_rate(const char *name, uint8_t type)
+{
+    stand("ABC", 3000);
+    add_free(&book, 3);
+    ask("ABC", type, 0, 10, type > BOOK_TMS ? 2900 : 0);
+    put(row_at(&book, band_at(type)), BOOK_AT_N3, 4, 0);
+    not_ordered(name, BOOK_ORDER_NO_RATE);
+    memset(row_at(&book, band_at(type)), 0, RECORD);
+    not_ordered(name, BOOK_ORDER_NO_BAND);
+}
+
 static void check_bands(void)
+{
+    each_search(searched);
+    without_rate("a market buy without a rate", BOOK_TMB);
+    without_rate("a market sell without a rate", BOOK_TMS);
+    without_rate("a limit buy without a rate", BOOK_TLB);
+    without_rate("a limit sell without a rate", BOOK_TLS);
+    without_rate("a stop loss without a rate", BOOK_TSL);
+}
+
+static void check_charges(void)
 {
     stand("ABC", 3000);
     add_free(&book, 2);
-    ask("ABC", BOOK_TMS, 0, 1000, 0);
-    expect_market(1, 0, (struct estimate){3000, 15000, 0, 0, 0}, STANDING, STANDING + 1);
-    ordered("as many shares as the band goes to");
-    ask("ABC", BOOK_TMS, 0, 1001, 0);
-    not_ordered("one share more", BOOK_ORDER_NO_RATE);
-    put(row_at(&book, band_at(BOOK_TMS)), BOOK_AT_N1, 4, 20);
-    ask("ABC", BOOK_TMS, 0, 20, 0);
-    expect_market(1, 0, (struct estimate){3000, 300, 0, 0, 0}, STANDING, STANDING + 1);
-    ordered("as many shares as the band begins with");
-    ask("ABC", BOOK_TMS, 0, 19, 0);
-    not_ordered("one share less", BOOK_ORDER_NO_RATE);
     memset(row_at(&book, charge_at(BOOK_TMS)), 0, RECORD);
-    not_ordered("and there is no charge", BOOK_ORDER_NO_RATE);
-    ask("ABC", BOOK_TMS, 0, 20, 0);
+    ask("ABC", BOOK_TMS, 0, 1000, 0);
     not_ordered("no charge", BOOK_ORDER_NO_CHARGE);
+    ask("ABC", BOOK_TMS, 0, 1001, 0);
+    not_ordered("no charge and no band", BOOK_ORDER_NO_BAND);
+    ask("ABC", BOOK_TMS, BOOK_FLAG_ROLL_BACK, 1001, 0);
+    not_ordered("the same, rolled back", BOOK_ORDER_NO_BAND);
+    put(row_at(&book, band_at(BOOK_TMS)), BOOK_AT_N2, 4, 1001);
+    put(row_at(&book, band_at(BOOK_TMS)), BOOK_AT_N3, 4, 0);
+    not_ordered("the same, with a band whose rate is 0", BOOK_ORDER_NO_RATE);
 }
 
 /* An order with a gain of 1,000 on a book without a free place, in which this is the largest number. */
@@ -399,8 +432,8 @@ static void crowd(uint64_t largest)
     ask("ABC", BOOK_TMS, 0, 1, 0);
 }
 
-/* Each fault comes before those that were there already. */
-static void check_order_of_checking(void)
+/* Each fault comes before those that were there already. The band's is that this field has this value. */
+static void check_order_of_checking(const char *name, size_t at, uint32_t value, int32_t status)
 {
     crowd(MOST_NUMBER - 1);
     not_ordered("no room", BOOK_NO_ROOM);
@@ -408,8 +441,8 @@ static void check_order_of_checking(void)
     not_ordered("and no number", BOOK_OVER_LIMIT);
     put(row_at(&book, charge_at(BOOK_TMS)), BOOK_AT_N1, 4, 0);
     not_ordered("and a charge of 0", BOOK_ORDER_NO_CHARGE);
-    put(row_at(&book, band_at(BOOK_TMS)), BOOK_AT_N3, 4, 0);
-    not_ordered("and a rate of 0", BOOK_ORDER_NO_RATE);
+    put(row_at(&book, band_at(BOOK_TMS)), at, 4, value);
+    not_ordered(name, status);
     put(row_at(&book, AT_TAX_RATE), BOOK_AT_N1, 4, 0);
     not_ordered("and a gain with rates of 0", BOOK_ORDER_NO_TAX);
     set_symbol(input.bytes, "ABD");
@@ -479,7 +512,9 @@ void check_orders(void)
     check_room();
     check_numbers();
     check_bands();
-    check_order_of_checking();
+    check_charges();
+    check_order_of_checking("and a rate of 0", BOOK_AT_N3, 0, BOOK_ORDER_NO_RATE);
+    check_order_of_checking("and no band, as it begins with 2 shares", BOOK_AT_N1, 2, BOOK_ORDER_NO_BAND);
     check_fields();
     refuses_lengths(BOOK_KIND_ORDER, begin_good, 1, 1);
     check_largest();

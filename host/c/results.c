@@ -287,53 +287,39 @@ static void buy_one(const char *name, uint32_t rate, uint32_t price, uint64_t co
     booked(name);
 }
 
-static void set_band(size_t place, uint8_t tier, uint8_t exchange, uint32_t from, uint32_t to, uint32_t rate)
-{
-    uint8_t *row = row_at(&book, place);
-    row[BOOK_AT_TYPE] = BOOK_TMS;
-    row[BOOK_AT_STATUS] = tier;
-    row[BOOK_AT_FLAGS] = exchange;
-    put(row, BOOK_AT_N1, 4, from);
-    put(row, BOOK_AT_N2, 4, to);
-    put(row, BOOK_AT_N3, 4, rate);
-}
-
 static void check_commissions(void)
 {
     buy_one("P6: 1 share at 100, rate 50", RATE, 100, 1, -601);
     buy_one("P6: 1 share at 99, rate 50", RATE, 99, 0, -599);
     buy_one("one cent and a half of commission", 5000, 3, 2, -505);
     buy_one("the whole value", 10000, 3000, 3000, -6500);
-    stand_opening(BOOK_TMS, 1000, 3000);
-    expect_opening(-1000, 15000, 2984500);
-    booked("as many shares as the band goes to");
-    stand_opening(BOOK_TMS, 1001, 3000);
-    not_booked("one share more", BOOK_RESULT_NO_RATE);
-    stand_opening(BOOK_TMS, 20, 3000);
-    put(row_at(&book, band_at(BOOK_TMS)), BOOK_AT_N1, 4, 20);
-    expect_opening(-20, 300, 59200);
-    booked("as many shares as the band begins with");
-    put(row_at(&book, band_at(BOOK_TMS)), BOOK_AT_N1, 4, 21);
-    not_booked("one share less", BOOK_RESULT_NO_RATE);
-    put(row_at(&book, band_at(BOOK_TMS)), BOOK_AT_N1, 4, 1);
-    put(row_at(&book, band_at(BOOK_TMS)), BOOK_AT_N3, 4, 0);
-    not_booked("a rate of 0", BOOK_RESULT_NO_RATE);
-    stand_opening(BOOK_TMS, 10, 3000);
-    set_band(band_at(BOOK_TMB), TIER - 1, EXCHANGE, 1, 1000, 70);
-    set_band(band_at(BOOK_TMS), TIER, EXCHANGE + 1, 1, 1000, 80);
-    set_band(band_at(BOOK_TLB), TIER, EXCHANGE, 1, 9, 90);
-    set_band(band_at(BOOK_TLS), TIER, EXCHANGE, 10, 10, 60);
-    expect_opening(-10, 180, 29320);
-    booked("the band of type, tier and exchange that holds the shares");
 }
 
-/* Ten shares at 3,000, at a rate that this type alone has. */
+/* A result that finds this among the bands. */
+static void searched(const struct search *search)
+{
+    const int64_t value = (int64_t)search->shares * PRICE, commission = (int64_t)search->commission;
+    stand_opening(BOOK_TMS, search->shares, PRICE);
+    set_bands(search);
+    if (search->rate <= 0) {
+        not_booked(search->name, search->rate == NO_BAND ? BOOK_RESULT_NO_BAND : BOOK_RESULT_NO_RATE);
+        return;
+    }
+    expect_opening(-(int64_t)search->shares, search->commission, value - CHARGE - commission);
+    booked(search->name);
+}
+
+/* Ten shares at 3,000, at a rate that this type alone has; if that is 0; and if the type's band is gone. */
 static void of_type(const char *name, uint8_t type, int64_t shares, int64_t settles)
 {
     stand_opening(type, 10, 3000);
     put(row_at(&book, band_at(type)), BOOK_AT_N3, 4, 60);
     expect_opening(shares, 180, settles);
     booked(name);
+    put(row_at(&book, band_at(type)), BOOK_AT_N3, 4, 0);
+    not_booked(name, BOOK_RESULT_NO_RATE);
+    memset(row_at(&book, band_at(type)), 0, RECORD);
+    not_booked(name, BOOK_RESULT_NO_BAND);
 }
 
 static void check_types(void)
@@ -369,6 +355,7 @@ void check_results(void)
     check_taxes();
     check_rates_of_zero();
     check_commissions();
+    each_search(searched);
     check_types();
     check_charges();
     check_edges();

@@ -109,7 +109,7 @@ static void check_statuses(void)
         }
     for (n = 0, status = -1000; status <= 1000; status++)
         n += strcmp(book_status_text(status), none) != 0;
-    want(n == 18, "a text for what is no status");
+    want(n == 20, "a text for what is no status");
     want(strcmp(book_status_name(BOOK_NO_ROOM), "BOOK_NO_ROOM") == 0, "the name of a status");
     want(book_status_name(1)[0] == '\0', "a name for what is no status");
 }

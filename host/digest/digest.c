@@ -25,7 +25,7 @@ static int32_t lookup(uint8_t *book, size_t book_len, const uint8_t *input, size
     return book_lookup(book, book_len, input, input_len, answer, answer_len);
 }
 
-enum { MOST_STATUSES = 12 };
+enum { MOST_STATUSES = 13 };
 static const struct {
     const char *name;
     call_function *call;
@@ -34,12 +34,13 @@ static const struct {
     {"order",
      book_order,
      {BOOK_DONE, BOOK_BAD_LENGTH, BOOK_BAD_BOOK, BOOK_UNSOUND, BOOK_BAD_INPUT, BOOK_ORDER_NO_ACCOUNT,
-      BOOK_ORDER_NO_SECURITY, BOOK_ORDER_NO_TAX, BOOK_ORDER_NO_RATE, BOOK_ORDER_NO_CHARGE, BOOK_OVER_LIMIT,
-      BOOK_NO_ROOM}},
+      BOOK_ORDER_NO_SECURITY, BOOK_ORDER_NO_TAX, BOOK_ORDER_NO_RATE, BOOK_ORDER_NO_BAND, BOOK_ORDER_NO_CHARGE,
+      BOOK_OVER_LIMIT, BOOK_NO_ROOM}},
     {"result",
      book_result,
      {BOOK_DONE, BOOK_BAD_LENGTH, BOOK_BAD_BOOK, BOOK_UNSOUND, BOOK_BAD_INPUT, BOOK_RESULT_NO_TRADE,
-      BOOK_RESULT_NOT_SUBMITTED, BOOK_RESULT_NO_TAX, BOOK_RESULT_NO_RATE, BOOK_OVER_LIMIT, BOOK_NO_ROOM}},
+      BOOK_RESULT_NOT_SUBMITTED, BOOK_RESULT_NO_TAX, BOOK_RESULT_NO_RATE, BOOK_RESULT_NO_BAND, BOOK_OVER_LIMIT,
+      BOOK_NO_ROOM}},
     {"feed",
      book_feed,
      {BOOK_DONE, BOOK_BAD_LENGTH, BOOK_BAD_BOOK, BOOK_UNSOUND, BOOK_BAD_INPUT, BOOK_FEED_NO_SECURITY, BOOK_OVER_LIMIT,

@@ -192,11 +192,14 @@ void make_book(struct book *book, size_t records)
 void change_band(struct book *book)
 {
     size_t records = book->length / BOOK_RECORD_SIZE, at = drawn(0, records - 1);
-    uint64_t rate = drawn(0, 2) * 100;
+    uint64_t change = drawn(0, 3); /* a rate of 0, 100 or 200, or no band */
     for (size_t n = 0; n < records; n++) {
         uint8_t *row = book->bytes + (at + n) % records * BOOK_RECORD_SIZE;
         if (row[BOOK_AT_KIND] == BOOK_KIND_BAND) {
-            book_put_u32(row + BOOK_AT_N3, rate);
+            if (change == 3)
+                memset(row, 0, BOOK_RECORD_SIZE);
+            else
+                book_put_u32(row + BOOK_AT_N3, change * 100);
             return;
         }
     }

@@ -26,6 +26,9 @@ FIELD = re.compile(rf"^ \*    ([* ]) ({'|'.join(FIELDS)})\b *(-?[\d,]+\.\.-?[\d,
 INPUTS = {KIND_ORDER: "order", KIND_RESULT: "result", KIND_FEED: "feed", KIND_LOOKUP: "lookup"}
 WIDTHS = {"type": (0, 255), "status": (0, 255), "flags": (0, 255), "party": (0, 2**32 - 1), "id": (0, 2**64 - 1),
           "time": (0, 2**32 - 1), "m1": (-2**63, 2**63 - 1), "m2": (-2**63, 2**63 - 1)}
+# What an order on the smallest book is refused for, if it lacks its row of this kind.
+WITHOUT = {KIND_BROKER: UNSOUND, KIND_CUSTOMER: UNSOUND, KIND_ACCOUNT: ORDER_NO_ACCOUNT,
+           KIND_SECURITY: ORDER_NO_SECURITY, KIND_BAND: ORDER_NO_BAND, KIND_CHARGE: ORDER_NO_CHARGE}
 passed, faults = 0, []
 
 
@@ -179,13 +182,13 @@ def check_smallest(library, book_check, lines):
         except Refused as refused:
             status = refused.status
         want(status == expected, f"a buy on the smallest book and {free} places, flags {flags}: {status}")
-    for without in range(len(rows)):
-        book = Book(rows[:without] + rows[without + 1:], 8, library)
+    for without, row in enumerate(rows):
+        book, status = Book(rows[:without] + rows[without + 1:], 8, library), DONE
         try:
             book.order(type=TMB, party=1, symbol="ABC", n1=10)
-            want(False, f"an order without {rows[without]}")
-        except Refused:
-            want(True, "")
+        except Refused as refused:
+            status = refused.status
+        want(status == WITHOUT[row.kind], f"an order without {row}: {status}")
 
 
 def check_texts(texts):

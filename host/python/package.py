@@ -143,7 +143,7 @@ class Books(unittest.TestCase):
         self.assertEqual(book.lookup(7, 7), [(trade, None)] * 2)
 
     def test_texts(self):
-        self.assertEqual(len(STATUS_TEXT), 18)
+        self.assertEqual(len(STATUS_TEXT), 20)
         for status in STATUS_TEXT:
             self.assertTrue(Refused(status).text)
         self.assertEqual(Refused(1).text, "no status of this library")

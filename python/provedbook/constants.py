@@ -15,11 +15,13 @@ ORDER_NO_ACCOUNT = -711
 ORDER_NO_SECURITY = -712
 ORDER_NO_TAX = -731
 ORDER_NO_RATE = -732
+ORDER_NO_BAND = -735
 ORDER_NO_CHARGE = -733
 RESULT_NO_TRADE = -811
 RESULT_NOT_SUBMITTED = -812
 RESULT_NO_TAX = -831
 RESULT_NO_RATE = -841
+RESULT_NO_BAND = -842
 FEED_NO_SECURITY = -311
 LOOKUP_NO_TRADE = -611
 OVER_LIMIT = -104
@@ -99,12 +101,14 @@ STATUS_TEXT = {
     ORDER_NO_ACCOUNT: 'order: no such account',
     ORDER_NO_SECURITY: 'order: no such security',
     ORDER_NO_TAX: "order: gain and tax status 1 or 2, yet the customer's rates sum to 0",
-    ORDER_NO_RATE: 'order: rate 0 or no band',
+    ORDER_NO_RATE: "order: the band's rate is 0",
+    ORDER_NO_BAND: 'order: no band holds the shares',
     ORDER_NO_CHARGE: 'order: charge 0 or no row',
     RESULT_NO_TRADE: 'result: no such trade',
     RESULT_NOT_SUBMITTED: "result: the trade's status is not 2, submitted",
     RESULT_NO_TAX: "result: gain and tax status 1 or 2, yet the customer's rates sum to 0",
-    RESULT_NO_RATE: 'result: rate 0 or no band',
+    RESULT_NO_RATE: "result: the band's rate is 0",
+    RESULT_NO_BAND: 'result: no band holds the shares',
     FEED_NO_SECURITY: "feed: an entry's security is unknown",
     LOOKUP_NO_TRADE: 'lookup: a trade is unknown',
     OVER_LIMIT: "trade number, balance, broker's trades or commission total, or volume would leave its range",
