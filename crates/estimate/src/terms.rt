@@ -41,7 +41,7 @@ pub struct Paper {
 }
 
 // All that an order reads, but for the lots and the room. A row that is not there is one of zeros, and so is what it
-// would have told.
+// would have told; of the band, the answer says whether it is there.
 pub struct Terms {
     pub holder: Holder,
     pub paper: Paper,

@@ -64,6 +64,7 @@ fn rated(rate: PerTenThousand) -> BandAnswer
     BandAnswer::Rate(rate)
 }
 
+// What the band that holds the shares answers, or that there is none.
 pub fn search(
     book: &[u8],
     dir: &[u16],

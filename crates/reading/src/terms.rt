@@ -37,7 +37,8 @@ pub struct Places {
     pub broker: usize,
 }
 
-// A row that is not there is that of a free record, and so is what it would have told.
+// A row that is not there is that of a free record, and so is what it would have told; of the band, the answer says
+// whether it is there.
 pub struct Terms {
     pub at: Places,
     // The trade is there, and so is a summary.
