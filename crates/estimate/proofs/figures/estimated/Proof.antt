@@ -27,5 +27,5 @@ commission-requires c κs =
 pub estimated-spec : {M : Type 1} → statement M
 estimated-spec =
     tie.close
-    (tie.spec (λ c κs. search needs) (λ c κs. search needs) closed-requires (λ c κs. search needs) (λ c κs. search needs) commission-requires
-    (λ c. search (needs, estimate-is)))
+    (tie.spec (λ c κs. search needs) (λ c κs. search needs) closed-requires (λ c κs. search needs)
+    (λ c κs. search needs) commission-requires (λ c. search (needs, estimate-is)))
