@@ -13,7 +13,7 @@ use Rattle.laws.specs.Place.{every-at}
 use Rattle.laws.specs.Search.{every}
 use Rattle.laws.specs.Tests.{and-left, and-right}
 use Rattle.laws.specs.Walk.{from, from-clear, from-high, from-holds, from-low}
-use Rattle.record.specs.Codes.{kindTrade}
+use Rattle.record.specs.Codes.{kindTrade, lastKind}
 use Rattle.record.specs.declared.row.Row.{Row}
 use Rattle.rules.specs.Rules.{fits, no-kind}
 use Rattle.model.specs.Rows.{is, mostRecords, nothing, rows}
@@ -28,7 +28,7 @@ use Rattle.by_kind.specs.Says.{refuted, says-no, says-yes}
 use Rattle.by_kind.specs.Well.{sound-by-well}
 
 abbrev pub kindHeads : ℕ
-kindHeads = 17
+kindHeads = lastKind + 1
 
 abbrev kindOf : Row → ℕ
 kindOf r = r .kind
@@ -42,7 +42,7 @@ pub record ByKind (b t : List ℕ) (i : ℕ) : Type 0 where
   pub within : i ≤ length b / 64
   pub few : length b / 64 ≤ mostRecords
   pub long : kindHeads + length b / 64 ≤ length t
-  pub known : (j : ℕ) → i ≤ j → j < length b / 64 → rowAt b j .kind ≤ 16
+  pub known : (j : ℕ) → i ≤ j → j < length b / 64 → rowAt b j .kind ≤ lastKind
   pub chained : Chained kindOf nothing kindHeads (rows b) t i
 
 pub no-chains : (b : List ℕ) (n e : ℕ) → e ≡ length b / 64 → kindHeads + length b / 64 ≤ n
@@ -62,7 +62,7 @@ kinds-start {b} {t} s h = record {
 }
 
 module _ {b t : List ℕ} {i : ℕ} (s : ByKind b t i) where
-  pub kinds-more : {h v : ℕ} {r : Row} → 0 < i → r ≡ rowAt b (i - 1) → r .kind ≤ 16 → h ≡ r .kind → v ≡ i - 1
+  pub kinds-more : {h v : ℕ} {r : Row} → 0 < i → r ≡ rowAt b (i - 1) → r .kind ≤ lastKind → h ≡ r .kind → v ≡ i - 1
       → ByKind b (set (set t (kindHeads + (i - 1)) (getD t h 0)) h v) (i - 1)
   kinds-more {h} {v} {r} p a k z q =
       let j = i - 1 in
@@ -82,13 +82,13 @@ module _ {b t : List ℕ} {i : ℕ} (s : ByKind b t i) where
       }
     where
       all-known : (x : ℕ) → i - 1 ≤ x → x < length b / 64 → (t : Bool) → eqb x (i - 1) ≡ t
-          → r .kind ≡ rowAt b (i - 1) .kind → r .kind ≤ 16 → rowAt b x .kind ≤ 16
+          → r .kind ≡ rowAt b (i - 1) .kind → r .kind ≤ lastKind → rowAt b x .kind ≤ lastKind
       all-known x u y true e m n = rw (eqb-true x (i - 1) e) (omega arith)
       all-known x u y false e m n =
           let f : (x ≡ i - 1 → ⊥) = eqb-false x (i - 1) e in s .known x (omega arith) y
 
   -- a kind has a head
-  pub head-low : {h k : ℕ} → k ≤ 16 → h ≡ k → h < length t
+  pub head-low : {h k : ℕ} → k ≤ lastKind → h ≡ k → h < length t
   head-low k z = let l = s .long in omega arith
 
   pub kinds-end : i ≤ 0 → ByKind b t 0
@@ -143,7 +143,7 @@ module _ (b : List ℕ) (good : sound (rows b) ≡ true) where
         rw k at (and-right (firstWell (rows b) r) (each kindTrade (hung (rows b)) r) sound-well)
 
 -- a row of no kind
-pub kinds-not : {b t : List ℕ} {i : ℕ} {r : Row} → ByKind b t i → 0 < i → r ≡ rowAt b (i - 1) → 16 < r .kind
+pub kinds-not : {b t : List ℕ} {i : ℕ} {r : Row} → ByKind b t i → 0 < i → r ≡ rowAt b (i - 1) → lastKind < r .kind
     → sound (rows b) ≡ false
 kinds-not {b} {i = i} {r = r} s p a k =
     refuted (sound (rows b))
@@ -180,7 +180,7 @@ module _ {b t : List ℕ} (s : ByKind b t 0) where
       not-numbered (rowAt b j) k
       (from-clear (numbered kindOf k) nothing (rows b) i j a (omega arith) (omega arith))
 
-  pub head-clear : (k c : ℕ) → k ≤ 16 → c ≡ getD t k 0 → (j : ℕ) → j < c → rowAt b j .kind ≡ k → ⊥
+  pub head-clear : (k c : ℕ) → k ≤ lastKind → c ≡ getD t k 0 → (j : ℕ) → j < c → rowAt b j .kind ≡ k → ⊥
   head-clear k c h e j a = clear k 0 c (e ∙ s .chained .heads k (omega arith)) (omega arith) j (omega arith) a
 
   pub link-clear : (k c u : ℕ) → c < length b / 64 → rowAt b c .kind ≡ k → u ≡ getD t (kindHeads + c) 0 → (j : ℕ)
@@ -210,7 +210,7 @@ module _ {b t : List ℕ} (s : ByKind b t 0) where
       passed j h u true v = f j (ltb-true j i v) u
       passed j h u false v = absurd (clear k i c e w j (ltb-false j i v) h u)
 
-  pub go-start : (P : ℕ → Type 0) {k h c : ℕ} → k ≤ 16 → h ≡ k → c ≡ getD t h 0 → Going P b k c
+  pub go-start : (P : ℕ → Type 0) {k h c : ℕ} → k ≤ lastKind → h ≡ k → c ≡ getD t h 0 → Going P b k c
   go-start P {k} {h} {c} low q e =
       there-is P k 0 c (e ∙ rw q (s .chained .heads k (omega arith))) (omega arith) (λ j a. absurd (omega arith))
 

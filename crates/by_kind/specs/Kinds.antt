@@ -69,25 +69,26 @@ kind-fits s i l = record { all = λ j h e. s .all j h (omega arith) .fit }
 pub well-to : {b : List ℕ} {k : ℕ} → WellTo b k → (i : ℕ) → i ≡ k → WellTo b i
 well-to s i e = rw e s
 
-pub well-but : {b t : List ℕ} → ByKind b t 0 → WellTo b kindSummary → KindWell b 14 → KindWell b 15 → KindWell b 16
-    → WellBut b kindSummary
-well-but {b} g s x y z =
-    record {
-      all = λ j h n.
-          go j h n (ltb (rowAt b j .kind) 13) (eqb (rowAt b j .kind) 14) (eqb (rowAt b j .kind) 15) refl refl refl;
-    }
+-- one kind more of those behind the one that is left out
+but-to : {b : List ℕ} {k i : ℕ} → ((j : ℕ) → j < length b / 64 → (rowAt b j .kind ≡ k → ⊥) → rowAt b j .kind < i
+    → WellAt b j) → KindWell b i
+    → (j : ℕ) → j < length b / 64 → (rowAt b j .kind ≡ k → ⊥) → rowAt b j .kind < i + 1 → WellAt b j
+but-to {b} {k} {i} s t j h n l = go (ltb (rowAt b j .kind) i) refl
   where
-    go : (j : ℕ) → j < length b / 64 → (rowAt b j .kind ≡ kindSummary → ⊥) → (p q r : Bool)
-        → ltb (rowAt b j .kind) 13 ≡ p → eqb (rowAt b j .kind) 14 ≡ q → eqb (rowAt b j .kind) 15 ≡ r → WellAt b j
-    go j h n true q r a c d = s .all j h (ltb-true (rowAt b j .kind) 13 a)
-    go j h n false true r a c d = x .all j h (eqb-true (rowAt b j .kind) 14 c)
-    go j h n false false true a c d = y .all j h (eqb-true (rowAt b j .kind) 15 d)
-    go j h n false false false a c d =
-        let low = ltb-false (rowAt b j .kind) 13 a in
-        let u : (rowAt b j .kind ≡ 14 → ⊥) = eqb-false (rowAt b j .kind) 14 c in
-        let v : (rowAt b j .kind ≡ 15 → ⊥) = eqb-false (rowAt b j .kind) 15 d in
-        let high = g .known j (omega arith) h in
-        z .all j h (omega arith)
+    go : (x : Bool) → ltb (rowAt b j .kind) i ≡ x → WellAt b j
+    go true e = s j h n (ltb-true (rowAt b j .kind) i e)
+    go false e = let o = ltb-false (rowAt b j .kind) i e in t .all j h (omega arith)
+
+pub well-but : {b t : List ℕ} → ByKind b t 0 → WellTo b kindSummary → KindWell b 14 → KindWell b 15 → KindWell b 16
+    → KindWell b 17 → WellBut b kindSummary
+well-but {b} g s w x y z =
+    let low : (j : ℕ) → j < length b / 64 → (rowAt b j .kind ≡ kindSummary → ⊥) → rowAt b j .kind < 14 → WellAt b j =
+    λ j h n l. s .all j h (omega arith)
+    in
+    record {
+      all = λ j h n. let high = g .known j (omega arith) h in
+          but-to (but-to (but-to (but-to low w) x) y) z j h n (omega arith);
+    }
 
 -- ---- all rows
 module _ {b : List ℕ} (s : WellBut b kindSummary) where

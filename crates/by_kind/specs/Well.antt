@@ -15,7 +15,7 @@ use Rattle.laws.specs.Search.{bit, count, every, means-every, the}
 use Rattle.laws.specs.Tests.{and-both, and-left, and-right, and-true, one-truth}
 use Rattle.record.specs.Codes.{completed, kindAccount, kindBand, kindCash, kindCustomer, kindCustomerRate, kindLot}
 use Rattle.record.specs.Codes.{kindLotHistory, kindRequest, kindSettlement, kindSummary, kindTrade, kindTradeHistory}
-use Rattle.record.specs.Codes.{pending, tlb}
+use Rattle.record.specs.Codes.{kindPermission, lastKind, pending, tlb}
 use Rattle.keys.specs.Key.{among}
 use Rattle.keys.specs.declared.Key.{Key}
 use Rattle.record.specs.Symbol.{same-symbol, sameSymbol}
@@ -555,6 +555,10 @@ module _ (rs : List Row) (r : Row) where
   unfolding kindRight
   own-account e = own-rule kindAccount rs r e ∙ row-names rs r refl (rw e)
 
+  own-permission : r .kind ≡ kindPermission → ownWell rs r ≡ rowRight rs r
+  unfolding kindRight
+  own-permission e = own-rule kindPermission rs r e ∙ row-names rs r refl (rw e)
+
   own-band : r .kind ≡ kindBand → ownWell rs r ≡ rowRight rs r
   unfolding named
   own-band e = own-rule kindBand rs r e ∙ row-kind rs r (names-none rs r (rw e)) (of-band rs r e refl)
@@ -566,8 +570,8 @@ module _ (rs : List Row) (r : Row) where
   own-lot-history e = own-rule kindLotHistory rs r e ∙ lot-history-row rs r e refl
 
 -- ---- what holds at each kind holds at every kind
-kind-step : (P : ℕ → Type 0) (i : ℕ) → P i → ((k : ℕ) → i + 1 ≤ k → k ≤ 16 → P k)
-    → (k : ℕ) → i ≤ k → k ≤ 16 → P k
+kind-step : (P : ℕ → Type 0) (i : ℕ) → P i → ((k : ℕ) → i + 1 ≤ k → k ≤ lastKind → P k)
+    → (k : ℕ) → i ≤ k → k ≤ lastKind → P k
 kind-step P i p f k a b = go (eqb k i) refl
   where
     go : (t : Bool) → eqb k i ≡ t → P k
@@ -575,22 +579,22 @@ kind-step P i p f k a b = go (eqb k i) refl
     go false e = let n = eqb-false k i e in f k (let m : (k ≡ i → ⊥) = n in omega arith) b
 
 by-kind : (P : ℕ → Type 0) → P 0 → P 1 → P 2 → P 3 → P 4 → P 5 → P 6 → P 7 → P 8
-    → P 9 → P 10 → P 11 → P 12 → P 13 → P 14 → P 15 → P 16 → (k : ℕ) → k ≤ 16 → P k
-by-kind P a b c d e f g h i j l m n o p q r k u =
-    let s16 = kind-step P 16 r (λ x v w. absurd (omega arith)) in
+    → P 9 → P 10 → P 11 → P 12 → P 13 → P 14 → P 15 → P 16 → P 17 → (k : ℕ) → k ≤ lastKind → P k
+by-kind P a b c d e f g h i j l m n o p q r t k u =
+    let s16 = kind-step P 16 r (kind-step P 17 t (λ x v w. absurd (omega arith))) in
     let s12 = kind-step P 12 n (kind-step P 13 o (kind-step P 14 p (kind-step P 15 q s16))) in
     let s8 = kind-step P 8 i (kind-step P 9 j (kind-step P 10 l (kind-step P 11 m s12))) in
     let s4 = kind-step P 4 e (kind-step P 5 f (kind-step P 6 g (kind-step P 7 h s8))) in
     kind-step P 0 a (kind-step P 1 b (kind-step P 2 c (kind-step P 3 d s4))) k (omega arith) u
 
 -- a row that fits is of a kind
-pub few-kinds : (r : Row) → fits r ≡ true → r .kind ≤ 16
-few-kinds r e = go (leb (r .kind) 16) refl
+pub few-kinds : (r : Row) → fits r ≡ true → r .kind ≤ lastKind
+few-kinds r e = go (leb (r .kind) lastKind) refl
   where
-    go : (t : Bool) → leb (r .kind) 16 ≡ t → r .kind ≤ 16
-    go true h = leb-true (r .kind) 16 h
+    go : (t : Bool) → leb (r .kind) lastKind ≡ t → r .kind ≤ lastKind
+    go true h = leb-true (r .kind) lastKind h
     go false h =
-        let over = leb-false (r .kind) 16 h in
+        let over = leb-false (r .kind) lastKind h in
         absurd (false≢true (no-kind r (omega arith) ∙ e))
 
 -- ---- both ways
@@ -614,7 +618,7 @@ module _ (rs : List Row) where
     same : (k : ℕ) → Same k → Right k
     same k f r m e = sym (f r e) ∙ well r m
 
-    all-right : (k : ℕ) → k ≤ 16 → Right k
+    all-right : (k : ℕ) → k ≤ lastKind → Right k
     all-right =
         by-kind Right
         (same 0 (bare 0 refl refl refl))
@@ -634,6 +638,7 @@ module _ (rs : List Row) where
         (same 14 (plain 14 refl refl (own-lot-history rs)))
         (settlement-right rs unique well)
         (cash-right rs unique well)
+        (same 17 (plain 17 refl refl (own-permission rs)))
 
   module _ (b : SoundBook rs) (unique : s2 rs ≡ true)
       (right : (r : Row) → List·Memᴰ r rs → rowRight rs r ≡ true) where
@@ -657,7 +662,7 @@ module _ (rs : List Row) where
         hung-row rs r k e a o (own-rule k rs r e ∙ own r)
         ∙ and-both (there (aTrade (r .id)) rs) (fitsTrade rs t r) h (hung-rule k rs t r e ∙ fit r m e h)
 
-    all-well : (k : ℕ) → k ≤ 16 → Well k
+    all-well : (k : ℕ) → k ≤ lastKind → Well k
     unfolding of
     all-well =
         by-kind Well
@@ -690,6 +695,7 @@ module _ (rs : List Row) where
         (λ r m e h. settlement-fits rs b unique r m (right r m) e h))
         (hanging kindCash refl refl (λ r. refl) (λ r e h. cash-names rs r e ∙ h)
         (λ r m e h. of-cash rs r e refl ∙ right-kind rs r (right r m)))
+        (equal 17 (plain 17 refl refl (own-permission rs)))
       where
         first-three : (x y z : Bool) → (x && y && z) ≡ true → x ≡ true
         first-three x y z h = and-left x y (and-left (x && y) z h)
@@ -700,7 +706,7 @@ module _ (rs : List Row) where
   gather : (p : Row → Bool) → ((r : Row) → List·Memᴰ r rs → p r ≡ true) → every p rs ≡ true
   gather p = means-every {P = λ r. p r ≡ true} rs (λ r. record { shows = λ e. e; holds = λ e. e }) .holds
 
-  kind-of : s1 rs ≡ true → (r : Row) → List·Memᴰ r rs → r .kind ≤ 16
+  kind-of : s1 rs ≡ true → (r : Row) → List·Memᴰ r rs → r .kind ≤ lastKind
   unfolding s1
   kind-of fit r m = few-kinds r (shown fits fit r m)
 

@@ -16,7 +16,7 @@ use record::row::Grid;
 pub struct Links {}
 
 impl Links {
-    pub const HEADS: usize = 17;
+    pub const HEADS: usize = 18;
 }
 
 fn wide(x: u16) -> usize
@@ -51,7 +51,7 @@ pub fn chain(book: &[u8], links: &mut [u16]) -> bool
     while 0 < i {
         let j = i - 1;
         let row = row_at(book, j);
-        if Kind::CASH < row.kind {
+        if Kind::LAST < row.kind {
             return false;
         }
         let k = index(row.kind);

@@ -3,7 +3,7 @@
 ghost use mathlib.Core.Path.{_≡_};
 ghost use mathlib.Core.Bool.{_&&_, false, true};
 ghost use Prim.Native.Nat.{_<_, _≤_};
-ghost use Rattle.record.specs.Codes.{kindSecurity, kindSummary, kindTrade};
+ghost use Rattle.record.specs.Codes.{kindSecurity, kindSummary, kindTrade, lastKind};
 ghost use Rattle.rules.specs.Rules.{fits};
 ghost use Rattle.keys.specs.Key.{among};
 ghost use Rattle.model.specs.Rows.{places, rows};
@@ -110,7 +110,7 @@ fn own_at(book: &[u8], dir: &[u16], kind: u8, i: usize) -> bool
 pub fn own(book: &[u8], dir: &[u16], links: &[u16], kind: u8) -> bool
     requires { ⌜ Listed (now book) (now dir) ⌝ }
     requires { ⌜ ByKind (now book) (now links) 0 ⌝ }
-    requires { ⌜ (kind ≤ 16) × (among kind hungKinds ≡ false) ⌝ }
+    requires { ⌜ (kind ≤ lastKind) × (among kind hungKinds ≡ false) ⌝ }
     requires { ⌜ (kind ≡ kindSummary → s1 (rows (now book)) ≡ true) ⌝ }
     requires { ⌜ (kind ≡ kindTrade → KindFits (now book) kindSecurity) ⌝ }
     ensures { λ r. ⌜ Says r (KindWell (now (book .entry)) kind) (sound (rows (now (book .entry)))) ⌝ }
@@ -147,7 +147,7 @@ pub fn standing(book: &[u8], dir: &[u16], links: &[u16]) -> bool
 // S1 of every row of a kind.
 pub fn fit(book: &[u8], links: &[u16], kind: u8) -> bool
     requires { ⌜ ByKind (now book) (now links) 0 ⌝ }
-    requires { ⌜ kind ≤ 16 ⌝ }
+    requires { ⌜ kind ≤ lastKind ⌝ }
     ensures { λ r. ⌜ Says r (KindFits (now (book .entry)) kind) (sound (rows (now (book .entry)))) ⌝ }
 {
     let n = book.len() / Grid::SIZE;

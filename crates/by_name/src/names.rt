@@ -9,6 +9,7 @@ ghost use Rattle.directory.specs.Listed.{Listed};
 use directory::typed;
 use kinds::rows::Account;
 use kinds::rows::CustomerRate;
+use kinds::rows::Permission;
 use places::place::part;
 use record::row::Grid;
 use record::symbol::Symbol;
@@ -38,6 +39,17 @@ pub fn served(book: &[u8], dir: &[u16], i: usize) -> bool
     let n = book.len() / Grid::SIZE;
     let row = Account::from_bytes(part(book, i));
     (typed::broker(book, dir, row.broker) < n) & (typed::customer(book, dir, row.customer) < n)
+}
+
+// What the permission at a place names.
+pub fn granted(book: &[u8], dir: &[u16], i: usize) -> bool
+    requires { ⌜ Listed (now book) (now dir) × (i < places (now book)) ⌝ }
+    ensures { λ r.
+        let rs = rows (now (book .entry)) in
+        ⌜ r ≡ there (anAccount (rowAt (now (book .entry)) i .party)) rs ⌝ }
+{
+    let row = Permission::from_bytes(part(book, i));
+    typed::account(book, dir, row.account) < book.len() / Grid::SIZE
 }
 
 // What a summary names.

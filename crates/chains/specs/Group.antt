@@ -37,8 +37,8 @@ aGroup kind form status flags party id symbol = record {
 abbrev pub apart : ℕ → Bool
 apart kind = eqb kind kindLot || eqb kind kindRequest
 
--- of a key of any other kind: the status of a history, the first share count of a band, the rate of a customer and the
--- second trade of a lot history fall away
+-- of a key of any other kind: the status of a history, the first share count of a band, the rate of a customer, the
+-- executor of an account and the second trade of a lot history fall away
 unfoldable pub keyGroup : Key → Key
 keyGroup k =
     aGroup (k .kind) (k .form) (cond (eqb (k .kind) kindTradeHistory) 0 (k .status)) (k .flags) (k .party) (k .id)

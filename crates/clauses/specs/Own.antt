@@ -7,12 +7,12 @@ use Prim.Native.Nat.{ℕ, zero, suc}
 use lib.ListN.{getD}
 use Rattle.record.specs.declared.row.Row.{Row}
 use Rattle.record.specs.Codes.{kindAccount, kindBand, kindCustomer, kindCustomerRate, kindLotHistory, kindSummary}
-use Rattle.record.specs.Codes.{kindTrade}
+use Rattle.record.specs.Codes.{kindPermission, kindTrade}
 use Rattle.model.specs.Rows.{there}
 use Rattle.model.specs.Sound.{bandApart, namesKnown, ratesFit, tradesDone}
-use Rattle.model.specs.Names.{aBroker, aCustomer, aTaxRate, named}
+use Rattle.model.specs.Names.{aBroker, aCustomer, aTaxRate, anAccount, named}
 use Rattle.by_group.specs.Kept.{summaryKept}
-use Rattle.by_group.specs.Rules.{names-two}
+use Rattle.by_group.specs.Rules.{names-one, names-two}
 
 -- the rules of the other rows, and of a trade beside what hangs on it, by the kind's number
 abbrev pub noRule : List Row → Row → Bool
@@ -40,6 +40,7 @@ ownRules =
     ∷ tradesDone
     ∷ noRule
     ∷ noRule
+    ∷ namesKnown
     ∷ []
 
 unfoldable pub ownWell : List Row → Row → Bool
@@ -52,9 +53,9 @@ own-rule k rs r e = ap (λ (x : ℕ). getD ownRules x noRule rs r) e
 -- a row of any other kind has no rule of its own
 pub own-none : (rs : List Row) (r : Row) → (r .kind ≡ kindCustomer → ⊥) → (r .kind ≡ kindCustomerRate → ⊥)
     → (r .kind ≡ kindAccount → ⊥) → (r .kind ≡ kindBand → ⊥) → (r .kind ≡ kindLotHistory → ⊥)
-    → (r .kind ≡ kindTrade → ⊥) → (r .kind ≡ kindSummary → ⊥) → true ≡ ownWell rs r
+    → (r .kind ≡ kindPermission → ⊥) → (r .kind ≡ kindTrade → ⊥) → (r .kind ≡ kindSummary → ⊥) → true ≡ ownWell rs r
 unfolding ownWell
-own-none rs r customer rate account band done trade summary = go (r .kind) refl
+own-none rs r customer rate account band done permission trade summary = go (r .kind) refl
   where
     -- by the number of the kind
     go : (k : ℕ) → r .kind ≡ k → true ≡ getD ownRules k noRule rs r
@@ -75,7 +76,10 @@ own-none rs r customer rate account band done trade summary = go (r .kind) refl
     go (suc (suc (suc (suc (suc (suc (suc (suc (suc (suc (suc (suc (suc (suc zero)))))))))))))) e = absurd (done e)
     go (suc (suc (suc (suc (suc (suc (suc (suc (suc (suc (suc (suc (suc (suc (suc zero))))))))))))))) e = refl
     go (suc (suc (suc (suc (suc (suc (suc (suc (suc (suc (suc (suc (suc (suc (suc (suc zero)))))))))))))))) e = refl
-    go (suc (suc (suc (suc (suc (suc (suc (suc (suc (suc (suc (suc (suc (suc (suc (suc (suc k))))))))))))))))) e = refl
+    go (suc (suc (suc (suc (suc (suc (suc (suc (suc (suc (suc (suc (suc (suc (suc (suc (suc zero))))))))))))))))) e =
+        absurd (permission e)
+    go (suc (suc (suc (suc (suc (suc (suc (suc (suc (suc (suc (suc (suc (suc (suc (suc (suc (suc k)))))))))))))))))) e =
+        refl
 
 module _ (rs : List Row) (r : Row) {x : Bool} where
   pub rate-told : r .kind ≡ kindCustomerRate → x ≡ (there (aCustomer (r .party)) rs && there (aTaxRate (r .n1)) rs)
@@ -90,3 +94,8 @@ module _ (rs : List Row) (r : Row) {x : Bool} where
   unfolding named
   account-told e h =
       h ∙ names-two rs r (aBroker (r .n1)) (aCustomer (r .n2)) (rw e) refl refl ∙ sym (own-rule kindAccount rs r e)
+
+  pub permission-told : r .kind ≡ kindPermission → x ≡ there (anAccount (r .party)) rs → x ≡ ownWell rs r
+  unfolding named
+  permission-told e h =
+      names-one rs r (anAccount (r .party)) (rw e) h ∙ sym (own-rule kindPermission rs r e)

@@ -13,6 +13,7 @@ ghost use Rattle.clauses.specs.Own.{ownWell};
 use by_group::apart;
 use by_group::rates_fit;
 use by_group::summed;
+use by_name::names::granted;
 use by_name::names::rated;
 use by_name::names::served;
 use by_name::names::traded;
@@ -47,6 +48,7 @@ pub fn right(book: &[u8], dir: &[u16], kind: u8, i: usize) -> bool
         Kind::ACCOUNT => served(book, dir, i),
         Kind::BAND => apart(book, dir, i),
         Kind::LOT_HISTORY => done(book, dir, i),
+        Kind::PERMISSION => granted(book, dir, i),
         _ => true,
     }
 }

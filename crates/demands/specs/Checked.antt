@@ -30,8 +30,8 @@ use Rattle.facts.specs.Checks.{decided-status}
 use Rattle.preserved.specs.Cases.{not-so}
 use Rattle.demands.specs.Conditions.{means-a-security, means-a-trade, means-absent, means-an-account}
 use Rattle.demands.specs.Conditions.{means-bad-book, means-fields, means-lengths, means-more, means-no-band}
-use Rattle.demands.specs.Conditions.{means-no-charge, means-no-rate, means-not, means-one-fails, means-some, means-unknown}
-use Rattle.demands.specs.Conditions.{means-untaxed}
+use Rattle.demands.specs.Conditions.{means-no-charge, means-no-rate, means-not, means-not-permitted}
+use Rattle.demands.specs.Conditions.{means-one-fails, means-some, means-unknown, means-untaxed}
 use Rattle.demands.specs.Demand2.{Demand2, fedBy, feedLines, lookupLines, orderLines, ownLines, resultLines}
 use Rattle.demands.specs.Demand2.{table}
 use Rattle.demands.specs.Lines.{Told, exactly, fails, given, given-checks}
@@ -51,18 +51,21 @@ order-told rs i good =
     let v = order.view rs i in (
       fails-not _ (means-absent rs (anAccount (i .party)) (means-an-account (i .party)) refl),
       λ _. (
-        fails-not _ (means-absent rs (aSecurity (i .symbol)) (means-a-security (i .symbol)) refl),
+        means-not-permitted rs (i .party) (i .n3),
         λ _. (
-          fails-not _ (means-untaxed rs good (i .party) (v .rates) (order.walked i v)),
+          fails-not _ (means-absent rs (aSecurity (i .symbol)) (means-a-security (i .symbol)) refl),
           λ _. (
-            fails-not _ (means-no-rate rs good (i .form) _ _ (i .n1)),
+            fails-not _ (means-untaxed rs good (i .party) (v .rates) (order.walked i v)),
             λ _. (
-              fails-not _ (means-no-band rs good (i .form) _ _ (i .n1)),
+              fails-not _ (means-no-rate rs good (i .form) _ _ (i .n1)),
               λ _. (
-                means-no-charge rs good (i .form) _,
+                fails-not _ (means-no-band rs good (i .form) _ _ (i .n1)),
                 λ _. (
-                  means-more (order.nextNumber rs) (tradeNumber .high),
-                  λ _. (means-more (length (order.posting i v .added)) (room rs), λ _. tt),
+                  means-no-charge rs good (i .form) _,
+                  λ _. (
+                    means-more (order.nextNumber rs) (tradeNumber .high),
+                    λ _. (means-more (length (order.posting i v .added)) (room rs), λ _. tt),
+                  ),
                 ),
               ),
             ),
@@ -76,8 +79,39 @@ unfolding order.order order.checks
 order-status rs i =
     let cs = order.checks rs i (order.view rs i) in
     decided-status cs rs _ refl
-    ∙ given-checks (orderLines rs i) cs
-    (refl, refl, (refl, refl, (refl, refl, (refl, refl, (refl, refl, (refl, refl, (refl, refl, (refl, refl, tt))))))))
+    ∙ given-checks (orderLines rs i) cs (
+      refl,
+      refl,
+      (
+        refl,
+        refl,
+        (
+          refl,
+          refl,
+          (
+            refl,
+            refl,
+            (
+              refl,
+              refl,
+              (
+                refl,
+                refl,
+                (
+                  refl,
+                  refl,
+                  (
+                    refl,
+                    refl,
+                    (refl, refl, tt),
+                  ),
+                ),
+              ),
+            ),
+          ),
+        ),
+      ),
+    )
 
 -- ---- result
 abbrev resultTests : List Row → Row → List Bool

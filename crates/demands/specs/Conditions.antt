@@ -1,6 +1,6 @@
 -- What the tests of the calls mean: each is true exactly when a condition of the table holds. Assumes nothing.
 use mathlib.Core.Path.{_≡_, refl, sym, ap, _∙_, subst}
-use mathlib.Core.Bool.{Bool, true, false, cond, not, _&&_, false≢true}
+use mathlib.Core.Bool.{Bool, true, false, cond, not, _&&_, _||_, false≢true}
 use mathlib.Core.List.{List, [], _∷_, List·Memᴰ, List·Memᴰ·head, List·Memᴰ·tail}
 use mathlib.Core.Logic.{_⊎_, _↔_, inl, inr, ⊎-elim}
 use Prim.Native.Nat.{ℕ, _*_, _%_, _≤_, _<_}
@@ -12,7 +12,7 @@ use Rattle.laws.specs.Place.{the-none, the-passes}
 use Rattle.laws.specs.Puts.{the-one}
 use Rattle.laws.specs.Search.{count, every, means-every, the}
 use Rattle.laws.specs.Tests.{Means, and-assoc, means-and, means-eq, means-le}
-use Rattle.record.specs.Codes.{kindAccount, kindCharge, kindFree, kindSecurity, kindTrade}
+use Rattle.record.specs.Codes.{kindAccount, kindCharge, kindFree, kindPermission, kindSecurity, kindTrade}
 use Rattle.record.specs.Grid.{decode}
 use Rattle.keys.specs.Key.{keyOf, sameKey}
 use Rattle.record.specs.Symbol.{means-same, sameSymbol}
@@ -29,16 +29,17 @@ use Rattle.model.specs.Band.{answerOf, bandAnswer, bandFor, noBand, rated, zero
 use Rattle.model.specs.Call.{Call, aFeed, aLookup, aResult, anOrder, fieldsOf, lengthsOf, mostInputs}
 use Rattle.model.specs.Lots.{Walk}
 use Rattle.model.specs.Money.{taxable, untaxed}
-use Rattle.model.specs.Names.{aCharge, aSecurity, aTrade, anAccount}
+use Rattle.model.specs.Names.{aCharge, aPermission, aSecurity, aTrade, anAccount}
+use Rattle.model.specs.Order.{permitted}
 use Rattle.model.specs.Rows.{found, hasKey, is, mostRecords, nothing, recordSize, rows, there, wholeRecords}
 use Rattle.model.specs.Sound.{sound}
 use Rattle.facts.specs.Found.{found-has, found-none, sound-s1, the-most}
-use Rattle.facts.specs.Names.{by-id, by-party, by-symbol}
+use Rattle.facts.specs.Names.{by-executor, by-id, by-party, by-symbol}
 use Rattle.facts.specs.Keys.{key-kind, of-live}
 use Rattle.preserved.specs.Cases.{by-cases, none-passes, not-so}
 use Rattle.preserved.specs.Once as once
-use Rattle.demands.specs.Demand2.{Account, Answers, Band, Charge, None, Records, RightFields, RightLengths}
-use Rattle.demands.specs.Demand2.{Security, Some, Trade, Untaxed, ZeroOrNone}
+use Rattle.demands.specs.Demand2.{Account, Answers, Band, Charge, None, Permission, Records, RightFields}
+use Rattle.demands.specs.Demand2.{RightLengths, Security, Some, Trade, Untaxed, ZeroOrNone}
 
 -- ---- tests and propositions
 -- the same test, or the same proposition in other words
@@ -84,6 +85,14 @@ pub means-one-fails : (a b c : Bool) {P Q R : Type 0} → Means (not a) P → Me
     → Means (not (a && b && c)) (P ⊎ (Q ⊎ R))
 means-one-fails a b c p q r =
     means-by (ap not (sym (and-assoc a b c))) (means-fails a (b && c) p (means-fails b c q r))
+
+-- neither of two tests passes
+means-neither : (a b : Bool) {P Q : Type 0} → Means (not a) P → Means (not b) Q → Means (not (a || b)) (P × Q)
+means-neither a b p q = means-by (nor a b) (means-and p q)
+  where
+    nor : (a b : Bool) → not (a || b) ≡ (not a && not b)
+    nor true b = refl
+    nor false b = refl
 
 -- some element fails
 pub means-some : {A : Type 0} (p : A → Bool) {P : A → Type 0} (l : List A) → ((x : A) → Means (not (p x)) (P x))
@@ -144,6 +153,22 @@ means-a-security y r = means-by (by-symbol y r) (means-and (means-eq (r .kind) k
 pub means-a-trade : (i : ℕ) (r : Row) → Means (hasKey (aTrade i) r) (Trade i r)
 means-a-trade i r =
     means-by (by-id kindTrade refl i r) (means-and (means-eq (r .kind) kindTrade) (means-eq (r .id) i))
+
+means-a-permission : (a e : ℕ) (r : Row) → Means (hasKey (aPermission a e) r) (Permission a e r)
+means-a-permission a e r =
+    means-by (by-executor a e r)
+    (means-as
+    (means-and (means-and (means-eq (r .kind) kindPermission) (means-eq (r .party) a)) (means-eq (r .n1) e))
+    (λ h. (h .0 .0, h .0 .1, h .1))
+    (λ h. ((h .0, h .1), h .2)))
+
+-- an executor is named, and has no row for the account
+pub means-not-permitted : (rs : List Row) (a e : ℕ)
+    → Means (not (permitted rs a e)) ((e ≡ 0 → ⊥) × None (Permission a e) rs)
+unfolding permitted
+means-not-permitted rs a e =
+    means-neither (eqb e 0) (there (aPermission a e) rs) (means-not (means-eq e 0))
+    (means-unknown rs (aPermission a e) (means-a-permission a e))
 
 means-a-charge : (form tier : ℕ) (r : Row) → Means (hasKey (aCharge form tier) r) (Charge form tier r)
 unfolding hasKey sameKey keyOf sameSymbol

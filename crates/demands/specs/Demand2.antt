@@ -10,7 +10,7 @@ use Prim.Native.Nat.{ℕ, _+_, _*_, _%_, _≤_, _<_}
 use lib.IntN.{ℤ, natAbs}
 use lib.ListN.{length}
 use Rattle.laws.specs.Search as laws
-use Rattle.record.specs.Codes.{kindAccount, kindBand, kindCharge, kindSecurity, kindTrade, submitted}
+use Rattle.record.specs.Codes.{kindAccount, kindBand, kindCharge, kindPermission, kindSecurity, kindTrade, submitted}
 use Rattle.record.specs.Grid.{decode}
 use Rattle.record.specs.declared.row.Row.{Row}
 use Rattle.record.specs.declared.symbol.Symbol.{Symbol}
@@ -19,9 +19,9 @@ use Rattle.rules.specs.Ranges.{brokerTrades, commissionTotal, moneyMost, tradeN
 use Rattle.model.specs.declared.Status.{Status}
 use Rattle.model.specs.declared.Status.the-variants.{BadBook, BadInput, BadLength, Done, FeedNoSecurity, LookupNoTrade}
 use Rattle.model.specs.declared.Status.the-variants.{NoRoom, OrderNoAccount, OrderNoBand, OrderNoCharge, OrderNoRate}
-use Rattle.model.specs.declared.Status.the-variants.{OrderNoSecurity, OrderNoTax, OverLimit, ResultNoBand}
-use Rattle.model.specs.declared.Status.the-variants.{ResultNoRate, ResultNoTax, ResultNoTrade, ResultNotSubmitted}
-use Rattle.model.specs.declared.Status.the-variants.{Unsound}
+use Rattle.model.specs.declared.Status.the-variants.{OrderNoSecurity, OrderNoTax, OrderNotPermitted, OverLimit}
+use Rattle.model.specs.declared.Status.the-variants.{ResultNoBand, ResultNoRate, ResultNoTax, ResultNoTrade}
+use Rattle.model.specs.declared.Status.the-variants.{ResultNotSubmitted, Unsound}
 use Rattle.model.specs.declared.BandAnswer.{BandAnswer}
 use Rattle.model.specs.declared.BandAnswer.the-variants.{NoBand, Rate, ZeroRate}
 use Rattle.model.specs.Call.{Call, Promise, aFeed, aLookup, aResult, anOrder, mostInputs, run}
@@ -65,6 +65,10 @@ Records most n = (recordSize ≤ n) × (n % recordSize ≡ 0) × (n ≤ most * r
 
 abbrev pub Account : ℕ → Row → Type 0
 Account number r = (r .kind ≡ kindAccount) × (r .party ≡ number)
+
+-- the executor may order for the account
+abbrev pub Permission : ℕ → ℕ → Row → Type 0
+Permission account executor r = (r .kind ≡ kindPermission) × (r .party ≡ account) × (r .n1 ≡ executor)
 
 abbrev pub Security : Symbol → Row → Type 0
 Security symbol r = (r .kind ≡ kindSecurity) × (r .symbol ≡ symbol)
@@ -135,8 +139,11 @@ orderLines rs i =
     let v = order.view rs i in
     let tier = tierOf rs (v .account) in
     let band = Band (i .form) tier (exchangeOf rs (i .symbol)) (i .n1) in
-    -- "no such account; no such security"
+    -- "no such account"
     (OrderNoAccount when None (Account (i .party)) rs)
+    -- "when a named executor has no row"; "zero is the owner"
+    ∷ (OrderNotPermitted when ((i .n3 ≡ 0 → ⊥) × None (Permission (i .party) (i .n3)) rs))
+    -- "no such security"
     ∷ (OrderNoSecurity when None (Security (i .symbol)) rs)
     -- "there is a gain, the tax status is 1 or 2 and the customer's rates sum to zero"
     ∷ (OrderNoTax when Untaxed (v .account .form) (v .rates) (order.walked i v))

@@ -93,7 +93,7 @@ unfolding keyOf
 own-marked r e f = (f ∙ ap (λ (x : Key). marksOf (x .kind) allKeys) (sym e), rw e (own-trimmed r))
 
 -- the group of a key that is no history's has its fields
-pub fields-group : (k f s p i : ℕ) (y : Symbol) → eqb k kindTradeHistory ≡ false
-    → aGroup k f s 0 p i y ≡ keyGroup (key k f s p i y)
+pub fields-group : (k f s p i : ℕ) (y : Symbol) (n : ℕ) → eqb k kindTradeHistory ≡ false
+    → aGroup k f s 0 p i y ≡ keyGroup (key k f s p i y n)
 unfolding keyGroup
-fields-group k f s p i y e = rw e
+fields-group k f s p i y n e = rw e

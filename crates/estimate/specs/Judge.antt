@@ -12,7 +12,8 @@ use Rattle.kinds.specs.declared.inputs.OrderInput.{OrderInput}
 use Rattle.rules.specs.Ranges.{tradeNumber}
 use Rattle.model.specs.declared.Status.{Status}
 use Rattle.model.specs.declared.Status.the-variants.{Done, NoRoom, OrderNoAccount, OrderNoBand, OrderNoCharge}
-use Rattle.model.specs.declared.Status.the-variants.{OrderNoRate, OrderNoSecurity, OrderNoTax, OverLimit}
+use Rattle.model.specs.declared.Status.the-variants.{OrderNoRate, OrderNoSecurity, OrderNoTax, OrderNotPermitted}
+use Rattle.model.specs.declared.Status.the-variants.{OverLimit}
 use Rattle.model.specs.Band.{noBand, zeroRate}
 use Rattle.model.specs.Plan.{Check, also, check, verdict}
 use Rattle.estimate.specs.declared.figures.Estimate.{Estimate}
@@ -32,6 +33,7 @@ three-added i h = rw (lt-leb (i .«trade_type») tms h)
 abbrev pub ownChecks : Terms → Estimate → List Check
 ownChecks t e =
     check (t .holder .known) OrderNoAccount
+    ∷ check (t .permitted) OrderNotPermitted
     ∷ check (t .paper .known) OrderNoSecurity
     ∷ check (not (e .untaxed)) OrderNoTax
     ∷ check (not (zeroRate (t .band))) OrderNoRate
@@ -45,13 +47,14 @@ judged free i t e =
     also (also (verdict (ownChecks t e)) (leb (t .number .0) (tradeNumber .high)) OverLimit)
     (leb (rowsAdded i) free) NoRoom
 
-pub own-judged : (t : Terms) (e : Estimate) {s1 s2 s3 s4 s5 : Status} {c : ℕ}
+pub own-judged : (t : Terms) (e : Estimate) {s1 s2 s3 s4 s5 s6 : Status} {c : ℕ}
     → s1 ≡ also Done (t .holder .known) OrderNoAccount
-    → s2 ≡ also s1 (t .paper .known) OrderNoSecurity
-    → s3 ≡ also s2 (not (e .untaxed)) OrderNoTax
-    → s4 ≡ also (also s3 (not (zeroRate (t .band))) OrderNoRate) (not (noBand (t .band))) OrderNoBand
+    → s2 ≡ also s1 (t .permitted) OrderNotPermitted
+    → s3 ≡ also s2 (t .paper .known) OrderNoSecurity
+    → s4 ≡ also s3 (not (e .untaxed)) OrderNoTax
+    → s5 ≡ also (also s4 (not (zeroRate (t .band))) OrderNoRate) (not (noBand (t .band))) OrderNoBand
     → c ≡ up (t .charge .0)
-    → s5 ≡ also s4 (leb 1 c) OrderNoCharge
-    → s5 ≡ verdict (ownChecks t e)
+    → s6 ≡ also s5 (leb 1 c) OrderNoCharge
+    → s6 ≡ verdict (ownChecks t e)
 unfolding verdict run
-own-judged t e a b c d k f = rw (f, k, d, c, b, a)
+own-judged t e a p b c d k f = rw (f, k, d, c, b, p, a)

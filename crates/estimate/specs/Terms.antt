@@ -1,11 +1,12 @@
 -- What an order reads, as the code has it, and the ranges that a sound book and a good input keep it in. Assumes
 -- nothing.
 use mathlib.Core.Path.{_≡_, ap}
-use mathlib.Core.Bool.{true}
+use mathlib.Core.Bool.{Bool, true}
 use mathlib.Core.List.{List}
 use Prim.Native.Nat.{ℕ, _+_, _≤_}
 use lib.IntN.{pos}
 use lib.Dec.{ltb}
+use borrow.Author.Tests.{ne-eqb}
 use Rattle.laws.specs.Search.{largest, place}
 use Rattle.record.specs.Signed.{up}
 use Rattle.record.specs.declared.row.Row.{Row}
@@ -24,8 +25,8 @@ use Rattle.rules.specs.Ranges.{commissionPart, priceMost, sharesMost, taxPart}
 use Rattle.rules.specs.Rules.{orderInput}
 use Rattle.model.specs.declared.BandAnswer.{BandAnswer}
 use Rattle.model.specs.Band.{bandAnswer, commissionRate}
-use Rattle.model.specs.Names.{aCharge, aCustomer, aSecurity, anAccount}
-use Rattle.model.specs.Order.{nextNumber, tradeId}
+use Rattle.model.specs.Names.{aCharge, aCustomer, aPermission, aSecurity, anAccount}
+use Rattle.model.specs.Order.{nextNumber, permitted, tradeId}
 use Rattle.model.specs.Rows.{found, hasKey, rows, there}
 use Rattle.model.specs.Sound.{ratesOf, sound}
 use Rattle.facts.specs.Found.{sound-s1}
@@ -54,6 +55,7 @@ termsOf rs i =
     let tier = found (aCustomer (a .n2)) rs .form in
     record {
       holder = holderOf rs (i .account);
+      permitted = permitted rs (i .account .0) (i .executor .0);
       paper = paperOf rs (i .symbol);
       charge = cents (pos (found (aCharge (i .«trade_type») tier) rs .n1));
       rates = perHundredThousand (ratesOf rs (a .n2));
@@ -77,20 +79,39 @@ module _ (b : List ℕ) {x n : ℕ} {r : Row} (g : n ≡ places b) where
       let t = key-there (aSecurity symbol) b e in
       rw (f, k, g, t)
 
+-- who may order
+pub owner-may : (rs : List Row) (a e : ℕ) → e ≡ 0 → true ≡ permitted rs a e
+unfolding permitted
+owner-may rs a e h = rw h
+
+pub other-may : (b : List ℕ) (a e : ℕ) {x n : ℕ} → (e ≡ 0 → ⊥)
+    → x ≡ place (hasKey (aPermission a e)) (rows b) → n ≡ places b → ltb x n ≡ permitted (rows b) a e
+unfolding permitted
+other-may b a e h q g = rw (ne-eqb e 0 h, g, key-there (aPermission a e) b q)
+
 -- each of them as it is read
 pub terms-are : (rs : List Row) (i : OrderInput) {h : Holder} {p : Paper} {tier top : ℕ} {c : Cents}
-    {ts : PerHundredThousand} {k : BandAnswer} → h ≡ holderOf rs (i .account) → p ≡ paperOf rs (i .symbol)
+    {ts : PerHundredThousand} {k : BandAnswer} {a : Bool} → h ≡ holderOf rs (i .account)
+    → a ≡ permitted rs (i .account .0) (i .executor .0) → p ≡ paperOf rs (i .symbol)
     → tier ≡ found (aCustomer (h .row .customer .0)) rs .form
     → c ≡ cents (pos (found (aCharge (i .«trade_type») tier) rs .n1))
     → ts .0 ≡ ratesOf rs (h .row .customer .0)
     → k ≡ bandAnswer rs (i .«trade_type») tier (p .row .exchange) (up (i .shares .0)) → top ≡ largest tradeId rs
     → _≡_ {A = Terms}
-    (record { holder = h; paper = p; charge = c; rates = ts; band = k; number = record { 0 = top + 1 } })
+    (record {
+      holder = h;
+      permitted = a;
+      paper = p;
+      charge = c;
+      rates = ts;
+      band = k;
+      number = record { 0 = top + 1 };
+    })
     (termsOf rs i)
 unfolding termsOf accountOf securityOf nextNumber
-terms-are rs i e f g m n o q =
+terms-are rs i e w f g m n o q =
     let t = ap perHundredThousand n in
-    rw (q, t, o, m, g, e, f)
+    rw (q, t, o, m, g, e, w, f)
 
 -- ---- the ranges
 pub record Fits (i : OrderInput) : Type 0 where

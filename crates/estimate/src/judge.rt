@@ -29,10 +29,11 @@ fn own_checks(terms: Terms, estimate: Estimate) -> Status
 {
     let band = terms.band;
     let s1 = also(Status::Done, terms.holder.known, Status::OrderNoAccount);
-    let s2 = also(s1, terms.paper.known, Status::OrderNoSecurity);
-    let s3 = also(s2, !estimate.untaxed, Status::OrderNoTax);
-    let s4 = also_rated(s3, band, Status::OrderNoRate, Status::OrderNoBand);
-    also(s4, 1 <= terms.charge.plain(), Status::OrderNoCharge)
+    let s2 = also(s1, terms.permitted, Status::OrderNotPermitted);
+    let s3 = also(s2, terms.paper.known, Status::OrderNoSecurity);
+    let s4 = also(s3, !estimate.untaxed, Status::OrderNoTax);
+    let s5 = also_rated(s4, band, Status::OrderNoRate, Status::OrderNoBand);
+    also(s5, 1 <= terms.charge.plain(), Status::OrderNoCharge)
 }
 
 // The checks of the rules, one after the other.

@@ -4,6 +4,7 @@ ghost use mathlib.Core.Path.{_≡_};
 ghost use lib.IntN.{pos};
 ghost use Rattle.units.specs.Units.{cents};
 ghost use Rattle.model.specs.Names.{aCharge, aCustomer};
+ghost use Rattle.model.specs.Order.{permitted};
 ghost use Rattle.model.specs.Rows.{found, rows};
 ghost use Rattle.model.specs.Sound.{sound};
 ghost use Rattle.directory.specs.Directory.{Directory};
@@ -25,6 +26,7 @@ use record::symbol::Symbol;
 use units::AccountNo;
 use units::Cents;
 use units::CustomerNo;
+use units::ExecutorNo;
 use units::PerHundredThousand;
 use units::TradeNo;
 
@@ -44,6 +46,7 @@ pub struct Paper {
 // would have told; of the band, the answer says whether it is there.
 pub struct Terms {
     pub holder: Holder,
+    pub permitted: bool,
     pub paper: Paper,
     pub charge: Cents,
     pub rates: PerHundredThousand,
@@ -61,6 +64,17 @@ fn holder_of(book: &[u8], dir: &[u16], no: AccountNo) -> Holder
         row: Account::from_bytes(&bytes),
         known: at < places(book),
     }
+}
+
+// The owner may always order; anyone else has a row for the account.
+fn permitted(book: &[u8], dir: &[u16], account: AccountNo, executor: ExecutorNo) -> bool
+    requires { ⌜ Listed (now book) (now dir) ⌝ }
+    ensures { λ r. ⌜ r ≡ permitted (rows (now (book .entry))) (account .0) (executor .0) ⌝ }
+{
+    if executor.0 == 0 {
+        return true;
+    }
+    typed::permission(book, dir, account, executor) < places(book)
 }
 
 fn paper_of(book: &[u8], dir: &[u16], symbol: Symbol) -> Paper
@@ -97,11 +111,13 @@ pub fn terms_of(book: &[u8], dir: &[u16], t: Totals, input: OrderInput) -> Terms
 {
     let form = input.trade_type;
     let holder = holder_of(book, dir, input.account);
+    let permitted = permitted(book, dir, input.account, input.executor);
     let paper = paper_of(book, dir, input.symbol);
     let customer = holder.row.customer;
     let tier = tier_of(book, dir, customer);
     Terms {
         holder,
+        permitted,
         paper,
         charge: charge_of(book, dir, form, tier),
         rates: tax_rates(book, dir, customer),

@@ -8,13 +8,13 @@ use lib.Dec.{eqb}
 use borrow.Author.Tests.{eq-eqb, eqb-true}
 use Rattle.laws.specs.Tests.{and-assoc, and-true, or-cases}
 use Rattle.record.specs.Codes.{kindAccount, kindBroker, kindCash, kindCustomer, kindLot, kindRequest, kindSecurity}
-use Rattle.record.specs.Codes.{kindSettlement, kindSummary, kindTaxRate, kindTrade, kindTradeHistory}
+use Rattle.record.specs.Codes.{kindPermission, kindSettlement, kindSummary, kindTaxRate, kindTrade, kindTradeHistory}
 use Rattle.keys.specs.Key.{among, keyOf, sameKey}
 use Rattle.record.specs.Symbol.{sameSymbol}
 use Rattle.keys.specs.declared.Key.{Key}
 use Rattle.record.specs.declared.row.Row.{Row}
 use Rattle.record.specs.declared.symbol.Symbol.{Symbol}
-use Rattle.model.specs.Names.{aHistory, aSecurity, aSummary, byId, byParty}
+use Rattle.model.specs.Names.{aHistory, aPermission, aSecurity, aSummary, byId, byParty}
 use Rattle.model.specs.Rows.{hasKey, is}
 
 abbrev pub ofId : ℕ → ℕ → Row → Bool
@@ -100,6 +100,14 @@ by-holder a s r =
     of-kind r (aSummary a s) (eqb (r .party) a && sameSymbol (r .symbol) s)
     (λ h. rw h (simp and-true))
     ∙ and-assoc (is kindSummary r) (eqb (r .party) a) (sameSymbol (r .symbol) s)
+
+pub by-executor : (a e : ℕ) (r : Row)
+    → hasKey (aPermission a e) r ≡ (ofParty kindPermission a r && eqb (r .n1) e)
+unfolding sameKey keyOf sameSymbol
+by-executor a e r =
+    of-kind r (aPermission a e) (eqb (r .party) a && eqb (r .n1) e)
+    (λ h. rw h (simp and-true))
+    ∙ and-assoc (is kindPermission r) (eqb (r .party) a) (eqb (r .n1) e)
 
 pub by-status : (i s : ℕ) (r : Row) → hasKey (aHistory i s) r ≡ (ofId kindTradeHistory i r && eqb (r .status) s)
 unfolding sameKey keyOf sameSymbol

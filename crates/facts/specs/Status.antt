@@ -15,14 +15,14 @@ use Rattle.model.specs.declared.Status.{Status}
 use Rattle.model.specs.declared.Status.the-variants.{BadBook, BadInput, BadLength, Done, FeedNoSecurity}
 use Rattle.model.specs.declared.Status.the-variants.{LookupNoTrade, NoRoom, OrderNoAccount, OrderNoBand}
 use Rattle.model.specs.declared.Status.the-variants.{OrderNoCharge, OrderNoRate, OrderNoSecurity, OrderNoTax}
-use Rattle.model.specs.declared.Status.the-variants.{OverLimit, ResultNoBand, ResultNoRate, ResultNoTax}
-use Rattle.model.specs.declared.Status.the-variants.{ResultNoTrade, ResultNotSubmitted, Unsound}
+use Rattle.model.specs.declared.Status.the-variants.{OrderNotPermitted, OverLimit, ResultNoBand, ResultNoRate}
+use Rattle.model.specs.declared.Status.the-variants.{ResultNoTax, ResultNoTrade, ResultNotSubmitted, Unsound}
 
 abbrev statuses : List Status
 statuses =
-    Done ∷ BadLength ∷ BadBook ∷ Unsound ∷ BadInput ∷ OverLimit ∷ NoRoom ∷ OrderNoAccount ∷ OrderNoSecurity
-    ∷ OrderNoTax ∷ OrderNoRate ∷ OrderNoBand ∷ OrderNoCharge ∷ ResultNoTrade ∷ ResultNotSubmitted ∷ ResultNoTax
-    ∷ ResultNoRate ∷ ResultNoBand ∷ FeedNoSecurity ∷ LookupNoTrade ∷ []
+    Done ∷ BadLength ∷ BadBook ∷ Unsound ∷ BadInput ∷ OverLimit ∷ NoRoom ∷ OrderNoAccount ∷ OrderNotPermitted
+    ∷ OrderNoSecurity ∷ OrderNoTax ∷ OrderNoRate ∷ OrderNoBand ∷ OrderNoCharge ∷ ResultNoTrade ∷ ResultNotSubmitted
+    ∷ ResultNoTax ∷ ResultNoRate ∷ ResultNoBand ∷ FeedNoSecurity ∷ LookupNoTrade ∷ []
 
 -- the status whose number it is
 abbrev named : ℤ → Status
@@ -43,6 +43,7 @@ numbered BadInput = (refl, refl, refl, refl)
 numbered OverLimit = (refl, refl, refl, refl)
 numbered NoRoom = (refl, refl, refl, refl)
 numbered OrderNoAccount = (refl, refl, refl, refl)
+numbered OrderNotPermitted = (refl, refl, refl, refl)
 numbered OrderNoSecurity = (refl, refl, refl, refl)
 numbered OrderNoTax = (refl, refl, refl, refl)
 numbered OrderNoRate = (refl, refl, refl, refl)

@@ -15,6 +15,7 @@ use kinds::rows::Customer;
 use kinds::rows::CustomerRate;
 use kinds::rows::Lot;
 use kinds::rows::LotHistory;
+use kinds::rows::Permission;
 use kinds::rows::Request;
 use kinds::rows::Security;
 use kinds::rows::Settlement;
@@ -122,6 +123,11 @@ pub fn fits_beside(part: &[u8], known: Symbol) -> bool
             let r = Row::read(part);
             let t = in_limits(r, trade_ranges::cash());
             beyond(t, r, Cash::BEYOND, known)
+        }
+        Kind::PERMISSION => {
+            let r = Row::read(part);
+            let t = in_limits(r, ranges::permission());
+            beyond(t, r, Permission::BEYOND, known)
         }
         _ => false,
     }

@@ -37,7 +37,6 @@ use Rattle.clauses.specs.Hung.{hangs, hungKinds, noOffset, offset, offset-as, o
 use Rattle.by_kind.specs.Distinct.{last-none, unique-last}
 use Rattle.by_kind.specs.Hung.{home, hung, slot}
 use Rattle.by_kind.specs.Once.{once, one-bit}
-use Rattle.by_kind.specs.Well.{few-kinds}
 
 -- ---- what S1 says of a status
 history-status : (r : Row) → fits r ≡ true → r .kind ≡ kindTradeHistory → (1 ≤ r .status) × (r .status ≤ 3)
@@ -183,7 +182,12 @@ pub record Past (b : List ℕ) (w j : ℕ) : Type 0 where
   pub early : rowAt b j .kind * 4096 + j < w
 
 abbrev pub allPast : ℕ
-allPast = 17 * 4096
+allPast = (kindCash + 1) * 4096
+
+pub hung-low : (k : ℕ) → among k hungKinds ≡ true → k ≤ kindCash
+hung-low k h =
+    of-five (λ (x : ℕ). x ≤ kindCash) k 10 11 12 15 16 (omega arith) (omega arith) (omega arith) (omega arith)
+    (omega arith) h
 
 pub record MarkedTo (b : List ℕ) (w : ℕ) (m : List ℕ) : Type 0 where
   pub few : length b / 64 ≤ mostRecords
@@ -243,7 +247,7 @@ module _ (b : List ℕ) (fit : s1 (rows b) ≡ true) (unique : s2 (rows b) ≡ t
             let told = shows r (from-holds p (rows b) 0 nothing h) in
             let kind = told .0 in
             let most = all .few in
-            let few = few-kinds r (fits-at j (omega arith)) in
+            let low = hung-low k hung-kind in
             let past : Past b allPast j =
             record { inside = omega arith; hung = rw kind hung-kind; early = omega arith }
             in

@@ -11,7 +11,7 @@ use borrow.Author.Tests.{eqb-false, eqb-true, le-ltb, lt-ltb, ltb-false, ltb-tru
 use Rattle.laws.specs.Marks.{marked-more, marked-none, marked-same, still-free}
 use Rattle.laws.specs.Search.{place}
 use Rattle.laws.specs.Tests.{and-both, and-left, and-right}
-use Rattle.record.specs.Codes.{kindFree}
+use Rattle.record.specs.Codes.{kindFree, lastKind}
 use Rattle.record.specs.declared.row.Row.{Row}
 use Rattle.keys.specs.Key.{among, keyOf}
 use Rattle.rules.specs.Rules.{fits}
@@ -30,7 +30,7 @@ use Rattle.by_kind.specs.Distinct.{last-none, none-last}
 use Rattle.by_kind.specs.Hung.{home, hungWell}
 use Rattle.by_kind.specs.Kinds.{KindWell, WellAt, hung-first}
 use Rattle.by_kind.specs.Says.{refuted}
-use Rattle.hanging.specs.Slots.{MarkedTo, Past, key-slot, slot-key, slotAt, small-offset}
+use Rattle.hanging.specs.Slots.{MarkedTo, Past, hung-low, key-slot, slot-key, slotAt, small-offset}
 
 abbrev pub noSlot : ℕ
 noSlot = 8 * mostRecords
@@ -173,9 +173,8 @@ pub record Hanging (b : List ℕ) (k c : ℕ) (m : List ℕ) : Type 0 where
   pub going : Going (HangWell b) b k c
   pub marked : MarkedTo b (k * 4096 + c) m
 
-hung-kind : (k : ℕ) → among k hungKinds ≡ true → k ≤ 16
-hung-kind k h =
-    of-five (λ (x : ℕ). x ≤ 16) k 10 11 12 15 16 (omega arith) (omega arith) (omega arith) (omega arith) (omega arith) h
+hung-kind : (k : ℕ) → among k hungKinds ≡ true → k ≤ lastKind
+hung-kind k h = let low = hung-low k h in omega arith
 
 pub hung-head : {b t : List ℕ} {k : ℕ} → ByKind b t 0 → among k hungKinds ≡ true → k < length t
 hung-head {k = k} s h =
@@ -213,7 +212,7 @@ hang-start {b} {t} {m} {k} {h = x} {c} s g h same q =
           (λ j i u v. below low q j i v (eqb (rowAt b j .kind) k) refl);
     }
   where
-    below : k ≤ 16 → c ≡ getD t x 0 → (j : ℕ) → j < length b / 64 → rowAt b j .kind * 4096 + j < k * 4096 + c
+    below : k ≤ lastKind → c ≡ getD t x 0 → (j : ℕ) → j < length b / 64 → rowAt b j .kind * 4096 + j < k * 4096 + c
         → (x : Bool) → eqb (rowAt b j .kind) k ≡ x → rowAt b j .kind * 4096 + j < k * 4096
     below low e j i v true u =
         let z = eqb-true (rowAt b j .kind) k u in

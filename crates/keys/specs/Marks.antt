@@ -64,6 +64,16 @@ unfoldable pub marksOf : ℕ → List Kind → Marks
 marksOf k [] = noMarks
 marksOf k (e ∷ es) = markedBy (eqb k (e .number)) (marks e) (marksOf k es)
 
+-- none of no kinds, and those of one kind more
+pub no-marks : (k : ℕ) → noMarks ≡ marksOf k []
+unfolding marksOf
+no-marks k = refl
+
+pub one-more : (k : ℕ) (e : Kind) (es : List Kind) {m r : Marks} → r ≡ markedBy (eqb k (e .number)) (marks e) m
+    → m ≡ marksOf k es → r ≡ marksOf k (e ∷ es)
+unfolding marksOf
+one-more k e es h g = h ∙ ap (λ (x : Marks). markedBy (eqb k (e .number)) (marks e) x) g
+
 -- ---- one of these kinds, from the right
 abbrev anyOf : ℕ → List ℕ → Bool
 anyOf k [] = false

@@ -16,6 +16,7 @@ use kinds::rows::Customer;
 use kinds::rows::CustomerRate;
 use kinds::rows::Lot;
 use kinds::rows::LotHistory;
+use kinds::rows::Permission;
 use kinds::rows::Request;
 use kinds::rows::Security;
 use kinds::rows::Settlement;
@@ -80,11 +81,12 @@ fn or(is: bool, marks: Marks, before: Marks) -> Marks
     }
 }
 
-// The marks of what trade leaves.
+// The marks of what trade leaves, and of the kinds behind that in the table.
 fn trading(k: u8) -> Marks
     ensures { λ r. ⌜ r ≡ marksOf k tradingKeys ⌝ }
 {
-    let m = or(k == Kind::CASH, Cash::KEY, Marks::NONE);
+    let m = or(k == Kind::PERMISSION, Permission::KEY, Marks::NONE);
+    let m = or(k == Kind::CASH, Cash::KEY, m);
     let m = or(k == Kind::SETTLEMENT, Settlement::KEY, m);
     let m = or(k == Kind::LOT_HISTORY, LotHistory::KEY, m);
     let m = or(k == Kind::SUMMARY, Summary::KEY, m);

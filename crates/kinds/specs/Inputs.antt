@@ -15,6 +15,7 @@ orderInputOf r = record {
   symbol = r .symbol;
   shares = shares (pos (r .n1));
   bid = record { 0 = r .n2 };
+  executor = record { 0 = r .n3 };
   time = record { 0 = r .time };
 }
 

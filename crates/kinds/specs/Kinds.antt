@@ -22,6 +22,7 @@ use Rattle.kinds.specs.declared.rows.Summary.{Summary}
 use Rattle.kinds.specs.declared.rows.LotHistory.{LotHistory}
 use Rattle.kinds.specs.declared.rows.Settlement.{Settlement}
 use Rattle.kinds.specs.declared.rows.Cash.{Cash}
+use Rattle.kinds.specs.declared.rows.Permission.{Permission}
 
 unfoldable pub brokerOf : Row → Broker
 brokerOf r = record {
@@ -155,4 +156,10 @@ cashOf r = record {
   no = record { 0 = r .id };
   amount = cents (toZ w64 (r .m1));
   time = record { 0 = r .time };
+}
+
+unfoldable pub permissionOf : Row → Permission
+permissionOf r = record {
+  account = record { 0 = r .party };
+  executor = record { 0 = r .n1 };
 }

@@ -15,12 +15,13 @@ use record::codes::Kind;
 use record::row::Grid;
 use record::symbol::Symbol;
 use units::AccountNo;
+use units::ExecutorNo;
 use units::Price;
 use units::Shares;
 use units::Time;
 use units::TradeNo;
 
-// What an order is given.
+// What an order is given. Executor 0 is the owner of the account.
 pub struct OrderInput {
     pub trade_type: u8,
     pub flags: u8,
@@ -28,6 +29,7 @@ pub struct OrderInput {
     pub symbol: Symbol,
     pub shares: Shares,
     pub bid: Price,
+    pub executor: ExecutorNo,
     pub time: Time,
 }
 
@@ -41,6 +43,7 @@ impl OrderInput {
             symbol: Ranges::ANY64,
             n1: Ranges::SHARES,
             n2: R32(0, Ranges::PRICE_MOST),
+            n3: R32(0, Ranges::NUMBER_MOST),
             time: Ranges::TIME,
             ..Limits::NONE
         },
@@ -62,6 +65,7 @@ impl OrderInput {
             symbol: Symbol::at(part, Grid::SYMBOL),
             shares: units::shares_u32_at(part, Grid::N1),
             bid: Price(bytes::u32_at(part, Grid::N2)),
+            executor: ExecutorNo(bytes::u32_at(part, Grid::N3)),
             time: Time(bytes::u32_at(part, Grid::TIME)),
         }
     }

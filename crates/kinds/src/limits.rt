@@ -135,7 +135,9 @@ impl Ranges {
 
     pub const ANY64: R64 = R64(0, 0xffff_ffff_ffff_ffff);
     // A number that names a party or a rate.
-    pub const NUMBER: R32 = R32(1, 999_999_999);
+    pub const NUMBER_MOST: u32 = 999_999_999;
+
+    pub const NUMBER: R32 = R32(1, Ranges::NUMBER_MOST);
 
     pub const TRADE_NO: R64 = R64(1, 999_999_999_999_999);
 

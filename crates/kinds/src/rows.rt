@@ -1,11 +1,11 @@
-// The sixteen kinds of row: where each has its fields, their limits, what it asks beyond them, the fields of its key,
+// The seventeen kinds of row: where each has its fields, their limits, what it asks beyond them, the fields of its key,
 // a value of the kind from a record's bytes, and, of the kinds that the calls write, the row of a value.
 ghost use mathlib.Core.Path.{_≡_};
 ghost use lib.ListN.{length};
 ghost use Rattle.record.specs.Grid.{decode};
 ghost use Rattle.kinds.specs.Kinds.{brokerOf, customerOf, taxRateOf, customerRateOf, accountOf, securityOf};
 ghost use Rattle.kinds.specs.Kinds.{bandOf, chargeOf, tradeOf, requestOf, tradeHistoryOf, lotOf, summaryOf};
-ghost use Rattle.kinds.specs.Kinds.{lotHistoryOf, settlementOf, cashOf};
+ghost use Rattle.kinds.specs.Kinds.{lotHistoryOf, settlementOf, cashOf, permissionOf};
 ghost use Rattle.kinds.specs.Written.{accountRow, brokerRow, cashRow, lotHistoryRow, lotRow, requestRow};
 ghost use Rattle.kinds.specs.Written.{securityRow, settlementRow, summaryRow, tradeHistoryRow, tradeRow};
 use crate::limits::Beyond;
@@ -25,6 +25,7 @@ use units::AccountNo;
 use units::BrokerNo;
 use units::Cents;
 use units::CustomerNo;
+use units::ExecutorNo;
 use units::PerHundredThousand;
 use units::PerTenThousand;
 use units::Price;
@@ -1025,5 +1026,43 @@ impl Cash {
         r.m1 = amount.bits();
         r.time = self.time.0;
         r
+    }
+}
+
+// Kind 17, who may order for an account beside its owner.
+pub struct Permission {
+    pub account: AccountNo,
+    pub executor: ExecutorNo,
+}
+
+impl Permission {
+    pub const KIND: u8 = Kind::PERMISSION;
+
+    pub const ACCOUNT: usize = Grid::PARTY;
+
+    pub const EXECUTOR: usize = Grid::N1;
+
+    pub const LIMITS: Limits = Limits {
+        kind: R8(Permission::KIND, Permission::KIND),
+        party: Ranges::NUMBER,
+        n1: Ranges::NUMBER,
+        ..Limits::NONE
+    };
+
+    pub const BEYOND: Beyond = Beyond::NOTHING;
+
+    pub const KEY: Marks = Marks {
+        n1: true,
+        ..Marks::PARTY
+    };
+
+    pub fn from_bytes(part: &[u8]) -> Permission
+        requires { ⌜ length (now part) ≡ 64 ⌝ }
+        ensures { λ r. ⌜ r ≡ permissionOf (decode (now (part .entry))) ⌝ }
+    {
+        Permission {
+            account: AccountNo(bytes::u32_at(part, Permission::ACCOUNT)),
+            executor: ExecutorNo(bytes::u32_at(part, Permission::EXECUTOR)),
+        }
     }
 }

@@ -17,8 +17,8 @@ use Rattle.rules.specs.Signed.{near}
 use Rattle.rules.specs.Rules.{fits, obeys, freeShape, brokerShape, customerShape, taxRateShape}
 use Rattle.rules.specs.Rules.{customerRateShape, accountShape, securityShape, bandShape, chargeShape}
 use Rattle.rules.specs.Rules.{tradeShape, requestShape, tradeHistoryShape, lotShape, summaryShape}
-use Rattle.rules.specs.Rules.{lotHistoryShape, settlementShape, cashShape, orderInputShape, resultInputShape}
-use Rattle.rules.specs.Rules.{feedInputShape, lookupInputShape}
+use Rattle.rules.specs.Rules.{lotHistoryShape, settlementShape, cashShape, permissionShape, orderInputShape}
+use Rattle.rules.specs.Rules.{resultInputShape, feedInputShape, lookupInputShape}
 use Rattle.model.specs.Band.{bandAnswer}
 use Rattle.model.specs.Call as call
 use Rattle.model.specs.Call.{Reply, feedCall, lookupCall, orderCall, refusalArea, replied, resultCall, shell}
@@ -58,7 +58,7 @@ unfolding bandShape chargeShape tradeShape requestShape tradeHistoryShape lotSha
 moreKindsOpened = 0
 
 unfoldable lastKindsOpened : ℕ
-unfolding settlementShape cashShape orderInputShape resultInputShape feedInputShape lookupInputShape
+unfolding settlementShape cashShape permissionShape orderInputShape resultInputShape feedInputShape lookupInputShape
 lastKindsOpened = 0
 
 unfoldable soundnessOpened : ℕ
@@ -87,7 +87,7 @@ unfolding rulesOpened
 soundOpened rs = sound rs
 
 unfoldable pub orderOpened : List ℕ → List ℕ → List ℕ → Reply
-unfolding postingOpened order.nextNumber order.view order.posting order.checks order.order call.run
+unfolding postingOpened order.nextNumber order.permitted order.view order.posting order.checks order.order call.run
 orderOpened b i a = orderCall b i a
 
 unfoldable pub resultOpened : List ℕ → List ℕ → List ℕ → Reply

@@ -16,8 +16,8 @@ use Rattle.model.specs.Call.{Reply, feedCall, orderCall, resultCall}
 use Rattle.model.specs.Evaluate.{feedOpened, orderOpened, resultOpened, tallyOpened}
 use Rattle.model.specs.Names.{aLot, aSummary, aTrade}
 use Rattle.model.specs.Rows.{bytes, found, is, rows}
-use Rattle.model.specs.Sample.{abc, buying, eight, entryAt, gaining, gainingBy, lastAt, orderFor, orderOf}
-use Rattle.model.specs.Sample.{resultAt, selling, seven, waiting}
+use Rattle.model.specs.Sample.{abc, buying, byExecutor, eight, entryAt, gaining, gainingBy, lastAt, orderFor}
+use Rattle.model.specs.Sample.{orderOf, permission, resultAt, selling, seven, waiting}
 use Rattle.model.specs.Status.{number}
 use Rattle.model.specs.Tally.{tally}
 
@@ -76,7 +76,8 @@ c gives o = record { case = c; outcome = o }
 abbrev minus : ℕ → ℤ
 minus n = negℤ (pos n)
 
--- P1 to P9; beside P7 a row on rates of zero, and an order with a gain of 2 (2026-02); the two rows on free places
+-- P1 to P9; beside P7 a row on rates of zero, and an order with a gain of 2 (2026-02); beside P9 orders on the book of
+-- P1, with a permission for executor 7: by 7, by 8 and by the owner (2026-01); the two rows on free places
 abbrev pub table : List Figure
 table =
     (aResult (selling 1 120 6) (resultAt 3_000) gives
@@ -107,6 +108,9 @@ table =
     ∷ (aFeed waiting (entryAt 501) gives (pos 0 ∷ pos 0 ∷ pos 1 ∷ pos 1 ∷ []))
     ∷ (anOrder waiting (orderFor seven 5) gives (pos 0 ∷ pos 3 ∷ []))
     ∷ (anOrder waiting (orderFor eight 5) gives (minus 103 ∷ pos 0 ∷ []))
+    ∷ (anOrder (permission ∷ selling 1 120 6) (byExecutor 7 (orderFor abc 1)) gives (pos 0 ∷ pos 15 ∷ []))
+    ∷ (anOrder (permission ∷ selling 1 120 6) (byExecutor 8 (orderFor abc 1)) gives (minus 721 ∷ pos 0 ∷ []))
+    ∷ (anOrder (permission ∷ selling 1 120 6) (orderFor abc 1) gives (pos 0 ∷ pos 15 ∷ []))
     ∷ (aResult (selling 1 120 5) (resultAt 3_000) gives
     (pos 0 ∷ pos 22_000 ∷ pos 1_800 ∷ pos 335_700 ∷ pos 1_335_700 ∷ pos 0 ∷ pos 30 ∷ pos 0 ∷ pos 30 ∷ pos 1 ∷ pos 1
     ∷ []))

@@ -4,8 +4,9 @@ use mathlib.Core.Bool.{cond}
 use mathlib.Core.List.{List, [], _∷_, map}
 use Prim.Native.Nat.{ℕ}
 use lib.ListN.{getD}
-use Rattle.record.specs.Codes.{kindAccount, kindBroker, kindCash, kindCharge, kindCustomer, kindLot, kindRequest}
-use Rattle.record.specs.Codes.{kindSecurity, kindSettlement, kindSummary, kindTaxRate, kindTrade, kindTradeHistory}
+use Rattle.record.specs.Codes.{kindAccount, kindBroker, kindCash, kindCharge, kindCustomer, kindLot, kindPermission}
+use Rattle.record.specs.Codes.{kindRequest, kindSecurity, kindSettlement, kindSummary, kindTaxRate, kindTrade}
+use Rattle.record.specs.Codes.{kindTradeHistory}
 use Rattle.record.specs.Symbol.{noSymbol}
 use Rattle.record.specs.declared.row.Row.{Row}
 use Rattle.keys.specs.Key as Table
@@ -15,8 +16,8 @@ use Rattle.rules.specs.Rules.{Kind, Name, kinds}
 use Rattle.keys.specs.declared.Key.{Key}
 use Rattle.record.specs.declared.symbol.Symbol.{Symbol}
 
-abbrev pub key : ℕ → ℕ → ℕ → ℕ → ℕ → Symbol → Key
-key k f s p i y = record {
+abbrev pub key : ℕ → ℕ → ℕ → ℕ → ℕ → Symbol → ℕ → Key
+key k f s p i y n = record {
   kind = k;
   form = f;
   status = s;
@@ -24,18 +25,18 @@ key k f s p i y = record {
   party = p;
   id = i;
   symbol = y;
-  n1 = 0;
+  n1 = n;
   m2 = 0;
 }
 
 abbrev pub byParty : ℕ → ℕ → Key
-byParty k p = key k 0 0 p 0 noSymbol
+byParty k p = key k 0 0 p 0 noSymbol 0
 
 abbrev pub byId : ℕ → ℕ → Key
-byId k i = key k 0 0 0 i noSymbol
+byId k i = key k 0 0 0 i noSymbol 0
 
 abbrev bySymbol : ℕ → Symbol → Key
-bySymbol k s = key k 0 0 0 0 s
+bySymbol k s = key k 0 0 0 0 s 0
 
 abbrev pub aBroker : ℕ → Key
 aBroker n = byParty kindBroker n
@@ -53,7 +54,7 @@ abbrev pub aSecurity : Symbol → Key
 aSecurity s = bySymbol kindSecurity s
 
 abbrev pub aCharge : ℕ → ℕ → Key
-aCharge form tier = key kindCharge form tier 0 0 noSymbol
+aCharge form tier = key kindCharge form tier 0 0 noSymbol 0
 
 abbrev pub aTrade : ℕ → Key
 aTrade i = byId kindTrade i
@@ -62,19 +63,22 @@ abbrev pub aRequest : ℕ → Key
 aRequest i = byId kindRequest i
 
 abbrev pub aHistory : ℕ → ℕ → Key
-aHistory i status = key kindTradeHistory 0 status 0 i noSymbol
+aHistory i status = key kindTradeHistory 0 status 0 i noSymbol 0
 
 abbrev pub aLot : ℕ → Key
 aLot i = byId kindLot i
 
 abbrev pub aSummary : ℕ → Symbol → Key
-aSummary account symbol = key kindSummary 0 0 account 0 symbol
+aSummary account symbol = key kindSummary 0 0 account 0 symbol 0
 
 abbrev pub aSettlement : ℕ → Key
 aSettlement i = byId kindSettlement i
 
 abbrev pub aCash : ℕ → Key
 aCash i = byId kindCash i
+
+abbrev pub aPermission : ℕ → ℕ → Key
+aPermission account executor = key kindPermission 0 0 account 0 noSymbol executor
 
 -- the key of a row that is named, by the field that its kind's key has: the table says which
 abbrev keyNamed : Row → Name → Key

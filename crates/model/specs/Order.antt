@@ -1,9 +1,9 @@
 -- Order: clause 3.3.7. Input: one record, kind 33; type; flags cash 1, LIFO 2, roll back 4; party; symbol; n1 shares;
--- n2 bid; time. Assumes nothing.
-use mathlib.Core.Bool.{Bool, cond, not}
+-- n2 bid; n3 executor; time. Assumes nothing.
+use mathlib.Core.Bool.{Bool, cond, not, _||_}
 use mathlib.Core.List.{List, [], _∷_}
 use Prim.Native.Nat.{ℕ, _+_, _%_}
-use lib.Dec.{leb}
+use lib.Dec.{eqb, leb}
 use lib.ListN.{length}
 use Rattle.laws.specs.Search.{largest}
 use Rattle.record.specs.Codes.{kindFree, kindOrder, kindRequest, kindTrade, pending, submitted, tms}
@@ -12,7 +12,7 @@ use Rattle.record.specs.declared.row.Row.{Row}
 use Rattle.rules.specs.Ranges.{flags, form, id, kind, m1, m2, n1, n2, n3, n4, party, status, symbol, tradeNumber}
 use Rattle.rules.specs.Ranges.{when}
 use Rattle.model.specs.declared.Status.the-variants.{OrderNoAccount, OrderNoBand, OrderNoCharge}
-use Rattle.model.specs.declared.Status.the-variants.{OrderNoRate, OrderNoSecurity, OrderNoTax}
+use Rattle.model.specs.declared.Status.the-variants.{OrderNoRate, OrderNoSecurity, OrderNoTax, OrderNotPermitted}
 use Rattle.model.specs.declared.BandAnswer.{BandAnswer}
 use Rattle.model.specs.Band.{bandAnswer, commissionRate, noBand, zeroRate}
 use Rattle.model.specs.Edit.{_≔_, inSymbol, new}
@@ -20,9 +20,9 @@ use Rattle.model.specs.Flags.{rollBack}
 use Rattle.model.specs.History.{historyRow}
 use Rattle.model.specs.Lots.{Walk, lotsFor, walk}
 use Rattle.model.specs.Money.{commissionOf, taxOf, untaxed}
-use Rattle.model.specs.Names.{aCharge, aCustomer, aSecurity, anAccount}
+use Rattle.model.specs.Names.{aCharge, aCustomer, aPermission, aSecurity, anAccount}
 use Rattle.model.specs.Plan.{Check, Outcome, Posting, accepted, check, decided, lastChecks, posted}
-use Rattle.model.specs.Rows.{found, is}
+use Rattle.model.specs.Rows.{found, is, there}
 use Rattle.model.specs.Sound.{ratesOf}
 
 -- "number = largest trade number + 1, or 1"
@@ -32,9 +32,15 @@ tradeId r = cond (is kindTrade r) (r .id) 0
 unfoldable pub nextNumber : List Row → ℕ
 nextNumber rs = largest tradeId rs + 1
 
+-- "n3 of an order name[s] the executor; zero is the owner, always allowed" (2026-01). Anyone else has a row for the
+-- account.
+unfoldable pub permitted : List Row → ℕ → ℕ → Bool
+permitted rs account executor = eqb executor 0 || there (aPermission account executor) rs
+
 -- all that an order reads, but for the room
 pub record View : Type 0 where
   pub account : Row
+  pub permitted : Bool
   pub security : Row
   pub charge : ℕ
   pub rates : ℕ
@@ -49,6 +55,7 @@ view rs input =
     let tier = found (aCustomer (a .n2)) rs .form in
     record {
       account = a;
+      permitted = permitted rs (input .party) (input .n3);
       security = s;
       charge = found (aCharge (input .form) tier) rs .n1;
       rates = ratesOf rs (a .n2);
@@ -117,6 +124,7 @@ posting input v =
 unfoldable pub checks : List Row → Row → View → List Check
 checks rs input v =
     check (not (is kindFree (v .account))) OrderNoAccount
+    ∷ check (v .permitted) OrderNotPermitted
     ∷ check (not (is kindFree (v .security))) OrderNoSecurity
     ∷ check (not (untaxed (v .account .form) (v .rates) (walked input v .bought) (walked input v .sold))) OrderNoTax
     ∷ check (not (zeroRate (v .band))) OrderNoRate

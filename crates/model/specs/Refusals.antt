@@ -11,13 +11,13 @@ use Rattle.record.specs.Grid.{encode}
 use Rattle.record.specs.Symbol.{spelling, symbolNumber}
 use Rattle.record.specs.declared.row.Row.{Row}
 use Rattle.record.specs.declared.symbol.Symbol.{Symbol}
-use Rattle.rules.specs.Ranges.{id, symbol}
+use Rattle.rules.specs.Ranges.{id, n1, party, symbol}
 use Rattle.model.specs.Call.{feedCall, lookupCall, orderCall, resultCall}
 use Rattle.model.specs.Edit.{_≔_, changed}
 use Rattle.model.specs.Evaluate.{feedOpened, lookupOpened, orderOpened, resultOpened}
 use Rattle.model.specs.Rows.{bytes}
-use Rattle.model.specs.Sample.{abc, atLimits, day, entryAt, gainingBy, lastNumber, lookupOf, orderFor, orderOf}
-use Rattle.model.specs.Sample.{resultAt, selling, unrated, without}
+use Rattle.model.specs.Sample.{abc, atLimits, byExecutor, day, entryAt, gainingBy, lastNumber, lookupOf, orderFor}
+use Rattle.model.specs.Sample.{orderOf, permission, resultAt, selling, unrated, without}
 use Rattle.model.specs.Status.{number}
 
 pub data Case : Type 0 where
@@ -71,8 +71,15 @@ table =
     ∷ (aResult (drop 1 (bytes (twice day))) (encode (resultAt 0)) gives 101)
     ∷ (result (twice day) (resultAt 0) gives 102)
     ∷ (result day (changed (resultAt 0) (id ≔ 77 ∷ [])) gives 103)
-    -- order: account, security, tax, band or its rate, charge, number, room
-    ∷ (order day (orderOf 1 9 unknown 5) gives 711)
+    ∷ (order day (byExecutor 1_000_000_000 (orderFor abc 5)) gives 103)
+    ∷ (order (changed permission (party ≔ 9 ∷ []) ∷ day) (orderFor abc 5) gives 102)
+    ∷ (order (changed permission (n1 ≔ 0 ∷ []) ∷ day) (orderFor abc 5) gives 102)
+    -- order: account, permission, security, tax, band or its rate, charge, number, room
+    ∷ (order (permission ∷ day) (byExecutor 7 (orderOf 1 9 unknown 5)) gives 711)
+    ∷ (order (bare day) (byExecutor 7 (orderFor unknown 5)) gives 721)
+    ∷ (order (permission ∷ bare day) (byExecutor 8 (orderFor unknown 5)) gives 721)
+    ∷ (order (permission ∷ selling 1 120 0) (byExecutor 1 (orderFor abc 5)) gives 721)
+    ∷ (order (permission ∷ bare day) (byExecutor 7 (orderFor unknown 5)) gives 712)
     ∷ (order (bare day) (orderFor unknown 5) gives 712)
     ∷ (order (bare (gainingBy 0 2_998)) (orderOf 2 1 abc 1) gives 731)
     ∷ (order (without kindCharge (unrated day)) (orderFor abc 5) gives 732)

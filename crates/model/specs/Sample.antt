@@ -7,8 +7,8 @@ use lib.IntN.{ℤ, pos, negℤ}
 use lib.ListN.{replicate}
 use Rattle.laws.specs.Search.{keep}
 use Rattle.record.specs.Codes.{completed, kindAccount, kindBand, kindBroker, kindCharge, kindCustomer}
-use Rattle.record.specs.Codes.{kindCustomerRate, kindFeed, kindLookup, kindLot, kindOrder, kindRequest, kindResult}
-use Rattle.record.specs.Codes.{kindSecurity, kindSettlement, kindSummary, kindTaxRate, kindTrade, pending, submitted}
+use Rattle.record.specs.Codes.{kindCustomerRate, kindFeed, kindLookup, kindLot, kindOrder, kindPermission, kindRequest}
+use Rattle.record.specs.Codes.{kindResult, kindSecurity, kindSettlement, kindSummary, kindTaxRate, kindTrade, pending, submitted}
 use Rattle.record.specs.Codes.{tlb, tmb, tms}
 use Rattle.record.specs.Symbol.{sameSymbol, spelling, symbolNumber}
 use Rattle.record.specs.declared.row.Row.{Row}
@@ -109,6 +109,10 @@ requested =
 abbrev pub waiting : List Row
 waiting = standing ++ requested ++ nothing ∷ nothing ∷ []
 
+-- executor 7 may order for account 1
+abbrev pub permission : Row
+permission = new (kind ≔ kindPermission ∷ party ≔ 1 ∷ n1 ≔ 7 ∷ [])
+
 -- lots, a submitted trade and a request
 abbrev pub day : List Row
 day = requested ++ selling 1 120 8
@@ -140,6 +144,9 @@ orderOf type owner sym shares =
 
 abbrev pub orderFor : Symbol → ℕ → Row
 orderFor sym shares = orderOf tmb 1 sym shares
+
+abbrev pub byExecutor : ℕ → Row → Row
+byExecutor executor r = changed r (n3 ≔ executor ∷ [])
 
 abbrev pub lookupOf : ℕ → Row
 lookupOf number = new (kind ≔ kindLookup ∷ id ≔ number ∷ [])

@@ -6,8 +6,8 @@ use Rattle.model.specs.declared.Status.{Status}
 use Rattle.model.specs.declared.Status.the-variants.{BadBook, BadInput, BadLength, Done, FeedNoSecurity}
 use Rattle.model.specs.declared.Status.the-variants.{LookupNoTrade, NoRoom, OrderNoAccount, OrderNoBand}
 use Rattle.model.specs.declared.Status.the-variants.{OrderNoCharge, OrderNoRate, OrderNoSecurity, OrderNoTax}
-use Rattle.model.specs.declared.Status.the-variants.{OverLimit, ResultNoBand, ResultNoRate, ResultNoTax, ResultNoTrade}
-use Rattle.model.specs.declared.Status.the-variants.{ResultNotSubmitted, Unsound}
+use Rattle.model.specs.declared.Status.the-variants.{OrderNotPermitted, OverLimit, ResultNoBand, ResultNoRate}
+use Rattle.model.specs.declared.Status.the-variants.{ResultNoTax, ResultNoTrade, ResultNotSubmitted, Unsound}
 
 -- -n, for n above zero
 abbrev minus : ℕ → ℤ
@@ -22,6 +22,7 @@ number BadInput = minus 103
 number OverLimit = minus 104
 number NoRoom = minus 105
 number OrderNoAccount = minus 711
+number OrderNotPermitted = minus 721
 number OrderNoSecurity = minus 712
 number OrderNoTax = minus 731
 number OrderNoRate = minus 732
@@ -44,6 +45,7 @@ isDone BadInput = false
 isDone OverLimit = false
 isDone NoRoom = false
 isDone OrderNoAccount = false
+isDone OrderNotPermitted = false
 isDone OrderNoSecurity = false
 isDone OrderNoTax = false
 isDone OrderNoRate = false

@@ -19,6 +19,7 @@ pub enum Status {
     OverLimit,
     NoRoom,
     OrderNoAccount,
+    OrderNotPermitted,
     OrderNoSecurity,
     OrderNoTax,
     OrderNoRate,

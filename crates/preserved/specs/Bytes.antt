@@ -18,15 +18,16 @@ use Rattle.laws.specs.Tests.{and-left, and-right}
 use Rattle.record.specs.Grid.{Sized, decode, decode-encode, encode, length-encode}
 use Rattle.record.specs.declared.row.Row.{Row}
 use Rattle.rules.specs.Meaning.{means-account, means-band, means-broker, means-cash, means-charge, means-customer}
-use Rattle.rules.specs.Meaning.{means-customer-rate, means-free, means-lot, means-lot-history, means-request}
-use Rattle.rules.specs.Meaning.{means-security, means-settlement, means-summary, means-tax-rate, means-trade}
-use Rattle.rules.specs.Meaning.{means-trade-history}
+use Rattle.rules.specs.Meaning.{means-customer-rate, means-free, means-lot, means-lot-history, means-permission}
+use Rattle.rules.specs.Meaning.{means-request, means-security, means-settlement, means-summary, means-tax-rate}
+use Rattle.rules.specs.Meaning.{means-trade, means-trade-history}
 use Rattle.rules.specs.Ranges.{Range, _⋯_, any32, any64, values}
 use Rattle.rules.specs.Rules.{account, accountLimits, band, bandLimits, broker, brokerLimits, cash, cashLimits, charge}
 use Rattle.rules.specs.Rules.{chargeLimits, customer, customerLimits, customerRate, customerRateLimits, fits, free}
-use Rattle.rules.specs.Rules.{freeLimits, lot, lotHistory, lotHistoryLimits, lotLimits, request, requestLimits, rules}
-use Rattle.rules.specs.Rules.{security, securityLimits, settlement, settlementLimits, summary, summaryLimits, taxRate}
-use Rattle.rules.specs.Rules.{taxRateLimits, trade, tradeHistory, tradeHistoryLimits, tradeLimits}
+use Rattle.rules.specs.Rules.{freeLimits, lot, lotHistory, lotHistoryLimits, lotLimits, permission, permissionLimits}
+use Rattle.rules.specs.Rules.{request, requestLimits, rules, security, securityLimits, settlement, settlementLimits}
+use Rattle.rules.specs.Rules.{summary, summaryLimits, taxRate, taxRateLimits, trade, tradeHistory, tradeHistoryLimits}
+use Rattle.rules.specs.Rules.{tradeLimits}
 use Rattle.model.specs.Rows.{bytes, recordSize, rows, sameRow}
 use Rattle.model.specs.Sound.{s1}
 use Rattle.preserved.specs.Cases.{by-cases}
@@ -113,7 +114,8 @@ each-sized =
     next lotHistory _ (λ r e. narrow-sized r lotHistoryLimits refl (means-lot-history r .shows e .0 .0 .0)) (
     next settlement _ (λ r e. narrow-sized r settlementLimits refl (means-settlement r .shows e .0)) (
     next cash _ (λ r e. narrow-sized r cashLimits refl (means-cash r .shows e .0)) (
-    all-none AllSized)))))))))))))))))
+    next permission _ (λ r e. narrow-sized r permissionLimits refl (means-permission r .shows e)) (
+    all-none AllSized))))))))))))))))))
 
 at-kind : (ts : List (Row → Bool)) → All AllSized ts → (k : ℕ) → AllSized (getD ts k (λ (s : Row). false))
 at-kind [] h k r e = absurd (false≢true e)

@@ -58,9 +58,9 @@ passed-all rs input k =
     let p = passed cs refl d in
     record {
       account = not-true (is kindFree (v .account)) (p .0);
-      security = not-true (is kindFree (v .security)) (p .1 .0);
-      number = leb-true (v .number) (tradeNumber .high) (p .1 .1 .1 .1 .1 .1 .0);
-      space = leb-true (length (posting input v .added)) (room rs) (p .1 .1 .1 .1 .1 .1 .1 .0);
+      security = not-true (is kindFree (v .security)) (p .1 .1 .0);
+      number = leb-true (v .number) (tradeNumber .high) (p .1 .1 .1 .1 .1 .1 .1 .0);
+      space = leb-true (length (posting input v .added)) (room rs) (p .1 .1 .1 .1 .1 .1 .1 .1 .0);
       rows = ap (λ (x : Outcome). x .rows) (decided-done cs rs o d);
     }
 

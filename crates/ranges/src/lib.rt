@@ -3,7 +3,7 @@
 ghost use mathlib.Core.Path.{_≡_};
 ghost use Rattle.rules.specs.Ranges.{ranges};
 ghost use Rattle.rules.specs.Rules.{accountLimits, bandLimits, brokerLimits, chargeLimits, customerLimits};
-ghost use Rattle.rules.specs.Rules.{customerRateLimits, freeLimits, securityLimits, taxRateLimits};
+ghost use Rattle.rules.specs.Rules.{customerRateLimits, freeLimits, permissionLimits, securityLimits, taxRateLimits};
 use kinds::limits::Limits;
 use kinds::rows::Account;
 use kinds::rows::Band;
@@ -11,6 +11,7 @@ use kinds::rows::Broker;
 use kinds::rows::Charge;
 use kinds::rows::Customer;
 use kinds::rows::CustomerRate;
+use kinds::rows::Permission;
 use kinds::rows::Security;
 use kinds::rows::TaxRate;
 
@@ -66,4 +67,10 @@ pub fn charge() -> Limits
     ensures { λ l. ⌜ ranges l ≡ chargeLimits ⌝ }
 {
     Charge::LIMITS
+}
+
+pub fn permission() -> Limits
+    ensures { λ l. ⌜ ranges l ≡ permissionLimits ⌝ }
+{
+    Permission::LIMITS
 }

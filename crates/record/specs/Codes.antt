@@ -53,6 +53,13 @@ kindSettlement = 15
 abbrev pub kindCash : ℕ
 kindCash = 16
 
+abbrev pub kindPermission : ℕ
+kindPermission = 17
+
+-- the last kind of a row
+abbrev pub lastKind : ℕ
+lastKind = kindPermission
+
 abbrev pub kindOrder : ℕ
 kindOrder = 33
 

@@ -36,6 +36,11 @@ impl Kind {
 
     pub const CASH: u8 = 16;
 
+    pub const PERMISSION: u8 = 17;
+
+    // The last kind of a row. Those behind are of inputs.
+    pub const LAST: u8 = Kind::PERMISSION;
+
     pub const ORDER: u8 = 33;
 
     pub const RESULT: u8 = 34;

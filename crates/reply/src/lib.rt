@@ -36,6 +36,7 @@ pub fn code(s: Status) -> i32
         Status::OverLimit => -104,
         Status::NoRoom => -105,
         Status::OrderNoAccount => -711,
+        Status::OrderNotPermitted => -721,
         Status::OrderNoSecurity => -712,
         Status::OrderNoTax => -731,
         Status::OrderNoRate => -732,

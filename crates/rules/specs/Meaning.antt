@@ -19,14 +19,15 @@ use Rattle.rules.specs.Rules.{fits, obeys}
 use Rattle.rules.specs.Rules.{freeShape, brokerShape, customerShape, taxRateShape, customerRateShape}
 use Rattle.rules.specs.Rules.{accountShape, securityShape, bandShape, chargeShape, tradeShape}
 use Rattle.rules.specs.Rules.{requestShape, tradeHistoryShape, lotShape, summaryShape}
-use Rattle.rules.specs.Rules.{lotHistoryShape, settlementShape, cashShape, orderInputShape}
+use Rattle.rules.specs.Rules.{lotHistoryShape, settlementShape, cashShape, permissionShape, orderInputShape}
 use Rattle.rules.specs.Rules.{resultInputShape, feedInputShape, lookupInputShape}
 use Rattle.rules.specs.Rules.{free, freeLimits, broker, brokerLimits, customer, customerLimits, taxRate}
 use Rattle.rules.specs.Rules.{taxRateLimits, customerRate, customerRateLimits, account, accountLimits}
 use Rattle.rules.specs.Rules.{security, securityLimits, band, bandLimits, charge, chargeLimits, trade}
 use Rattle.rules.specs.Rules.{tradeLimits, request, requestLimits, tradeHistory, tradeHistoryLimits, lot}
 use Rattle.rules.specs.Rules.{lotLimits, summary, summaryLimits, lotHistory, lotHistoryLimits, settlement}
-use Rattle.rules.specs.Rules.{settlementLimits, cash, cashLimits, orderInput, orderInputLimits, resultInput}
+use Rattle.rules.specs.Rules.{settlementLimits, cash, cashLimits, permission, permissionLimits, orderInput}
+use Rattle.rules.specs.Rules.{orderInputLimits, resultInput}
 use Rattle.rules.specs.Rules.{resultInputLimits, feedInput, feedInputLimits, lookupInput, lookupInputLimits}
 
 abbrev pub Free : Row → Type 0
@@ -165,6 +166,13 @@ pub means-cash : (r : Row) → Means (cash r) (Cash r)
 unfolding obeys cashShape
 means-cash r = means-and (means-limited r cashLimits) (means-near w64 (r .m1) moneyMost)
 
+abbrev pub Permission : Row → Type 0
+Permission r = Limited r permissionLimits
+
+pub means-permission : (r : Row) → Means (permission r) (Permission r)
+unfolding obeys permissionShape
+means-permission r = means-limited r permissionLimits
+
 abbrev pub OrderInput : Row → Type 0
 OrderInput r = (Limited r orderInputLimits × (((r .n2 ≡ 0 → r .form ≤ tms) × (r .form ≤ tms → r .n2 ≡ 0))))
     × Spelt (r .symbol)
@@ -229,6 +237,7 @@ grid =
     ∷ record { test = lotHistory; Meaning = LotHistory; means = means-lot-history }
     ∷ record { test = settlement; Meaning = Settlement; means = means-settlement }
     ∷ record { test = cash; Meaning = Cash; means = means-cash }
+    ∷ record { test = permission; Meaning = Permission; means = means-permission }
     ∷ []
 
 -- the row is free or fits the grid

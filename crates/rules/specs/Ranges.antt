@@ -31,8 +31,11 @@ any32 = 0 ⋯ 0xffff_ffff
 abbrev pub any64 : Range
 any64 = 0 ⋯ 0xffff_ffff_ffff_ffff
 
+abbrev pub numberMost : ℕ
+numberMost = 999_999_999
+
 abbrev pub number : Range
-number = 1 ⋯ 999_999_999
+number = 1 ⋯ numberMost
 
 abbrev pub tradeNumber : Range
 tradeNumber = 1 ⋯ 999_999_999_999_999

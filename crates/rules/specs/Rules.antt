@@ -11,7 +11,7 @@ use Rattle.laws.specs.Tests.{_⇔_}
 use Rattle.record.specs.Codes.{completed, kindAccount, kindBand, kindBroker, kindCash, kindCharge, kindCustomer}
 use Rattle.record.specs.Codes.{kindCustomerRate, kindFeed, kindFree, kindLookup, kindLot, kindLotHistory, kindOrder}
 use Rattle.record.specs.Codes.{kindRequest, kindResult, kindSecurity, kindSettlement, kindSummary, kindTaxRate}
-use Rattle.record.specs.Codes.{kindTrade, kindTradeHistory, tms}
+use Rattle.record.specs.Codes.{kindPermission, kindTrade, kindTradeHistory, tms}
 use Rattle.record.specs.Spelling.{symbolOk}
 use Rattle.record.specs.declared.row.Row.{Row}
 use Rattle.record.specs.declared.symbol.Symbol.{Symbol}
@@ -20,8 +20,8 @@ use Rattle.kinds.specs.declared.limits.Clause.{Clause}
 use Rattle.kinds.specs.declared.limits.Clause.the-variants.{Nothing, FromTo, Completed, NotZero, Unequal, Market}
 use Rattle.kinds.specs.declared.limits.Rule.{Rule}
 use Rattle.rules.specs.Ranges.{_⋯_, _∈_, Range, any32, any64, brokerTrades, cashFlag, charged, commissionPart}
-use Rattle.rules.specs.Ranges.{commissionTotal, dueTime, exchange, fee, limited, moneyMost, number, only}
-use Rattle.rules.specs.Ranges.{orderFlags, price, priceMost, ranges, shares, sharesMost, taxPart, taxStatus, tier}
+use Rattle.rules.specs.Ranges.{commissionTotal, dueTime, exchange, fee, limited, moneyMost, number, numberMost}
+use Rattle.rules.specs.Ranges.{only, orderFlags, price, priceMost, ranges, shares, sharesMost, taxPart, taxStatus, tier}
 use Rattle.rules.specs.Ranges.{time, tradeFlags, tradeNumber, tradeStatus, tradeType, volume, kind, form}
 use Rattle.rules.specs.Ranges.{status, flags, party, id, symbol, n1, n2, n3, n4, m1, m2, when}
 use Rattle.rules.specs.Signed.{near}
@@ -280,12 +280,22 @@ cashShape = signed cashLimits moneyMost
 abbrev pub cash : Row → Bool
 cash r = obeys cashShape r
 
+-- 17 permission: party account, n1 executor
+abbrev pub permissionLimits : List Range
+permissionLimits = only (kind ∈ kindPermission ⋯ kindPermission ∷ party ∈ number ∷ n1 ∈ number ∷ [])
+
+unfoldable pub permissionShape : Shape
+permissionShape = plain permissionLimits
+
+abbrev pub permission : Row → Bool
+permission r = obeys permissionShape r
+
 -- 33 order input: type; flags cash 1, LIFO 2, roll back 4; party; symbol; n1 shares; n2 bid (zero exactly for types 1
--- and 2); time
+-- and 2); n3 executor, zero the owner; time
 abbrev pub orderInputLimits : List Range
 orderInputLimits =
     only (kind ∈ kindOrder ⋯ kindOrder ∷ form ∈ tradeType ∷ flags ∈ orderFlags ∷ party ∈ number ∷ symbol ∈ any64
-    ∷ n1 ∈ shares ∷ n2 ∈ 0 ⋯ priceMost ∷ when ∈ time ∷ [])
+    ∷ n1 ∈ shares ∷ n2 ∈ 0 ⋯ priceMost ∷ n3 ∈ 0 ⋯ numberMost ∷ when ∈ time ∷ [])
 
 unfoldable pub orderInputShape : Shape
 orderInputShape = spelt orderInputLimits Market
@@ -362,6 +372,7 @@ kinds =
     ∷ entry kindLotHistory lotHistoryShape (id ∷ m2 ∷ []) (kindTrade by id ∷ kindTrade by m2 ∷ [])
     ∷ entry kindSettlement settlementShape (id ∷ []) (kindTrade by id ∷ [])
     ∷ entry kindCash cashShape (id ∷ []) (kindTrade by id ∷ [])
+    ∷ entry kindPermission permissionShape (party ∷ n1 ∷ []) (kindAccount by party ∷ [])
     ∷ []
 
 -- the rule of each kind, by its number

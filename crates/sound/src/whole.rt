@@ -1,13 +1,13 @@
 // The whole of a book, kind by kind; and its status.
 ghost use mathlib.Core.Path.{_≡_};
 ghost use Prim.Native.Nat.{_*_, _≤_};
-ghost use Rattle.record.specs.Codes.{kindSummary};
+ghost use Rattle.record.specs.Codes.{kindLotHistory, kindPermission, kindSummary};
 ghost use Rattle.model.specs.Rows.{mostRecords, places, rows, wholeRecords};
 ghost use Rattle.model.specs.Sound.{sound};
 ghost use Rattle.model.specs.Tally.{bookStatus};
 ghost use Rattle.directory.specs.Listed.{Listed};
 ghost use Rattle.by_kind.specs.Chains.{ByKind, NoChains};
-ghost use Rattle.by_kind.specs.Kinds.{WellBut, WellTo};
+ghost use Rattle.by_kind.specs.Kinds.{KindWell, WellBut, WellTo};
 ghost use Rattle.by_kind.specs.Says.{Says};
 ghost use Rattle.hanging.specs.Slots.{MarkedTo, allPast};
 use crate::area::Large;
@@ -25,7 +25,21 @@ use model::Status;
 use record::codes::Kind;
 use record::row::Grid;
 
-// The kinds that hang on a trade, and between them the lot histories.
+// The kinds behind the trades that do not hang on one: lot histories and permissions.
+fn beside(book: &[u8], dir: &[u16], links: &[u16]) -> bool
+    requires { ⌜ Listed (now book) (now dir) ⌝ }
+    requires { ⌜ ByKind (now book) (now links) 0 ⌝ }
+    ensures { λ r.
+        let b = now (book .entry) in
+        ⌜ Says r (KindWell b kindLotHistory × KindWell b kindPermission) (sound (rows b)) ⌝ }
+{
+    if !own(book, dir, links, Kind::LOT_HISTORY) {
+        return false;
+    }
+    own(book, dir, links, Kind::PERMISSION)
+}
+
+// The kinds that hang on a trade, and between them those that do not.
 fn hanging(book: &[u8], dir: &[u16], links: &[u16], marks: &mut [u8]) -> bool
     requires { ⌜ Listed (now book) (now dir) ⌝ }
     requires { ⌜ ByKind (now book) (now links) 0 ⌝ }
@@ -44,7 +58,7 @@ fn hanging(book: &[u8], dir: &[u16], links: &[u16], marks: &mut [u8]) -> bool
     if !hang(book, dir, links, marks, Kind::LOT) {
         return false;
     }
-    if !own(book, dir, links, Kind::LOT_HISTORY) {
+    if !beside(book, dir, links) {
         return false;
     }
     if !hang(book, dir, links, marks, Kind::SETTLEMENT) {

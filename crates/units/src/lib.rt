@@ -192,6 +192,9 @@ pub struct CustomerNo(pub u32);
 // The number of a tax rate.
 pub struct RateNo(pub u32);
 
+// Who may order for an account beside its owner; 0 is the owner.
+pub struct ExecutorNo(pub u32);
+
 // A tax rate.
 pub struct PerHundredThousand(pub u32);
 

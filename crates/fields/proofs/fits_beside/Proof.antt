@@ -11,7 +11,7 @@ use Rattle.record.specs.declared.row.Row.{Row}
 use Rattle.rules.specs.Beyond.{in-two}
 use Rattle.rules.specs.Rules.{accountShape, as-kind, bandShape, brokerShape, cashShape, chargeShape}
 use Rattle.rules.specs.Rules.{customerRateShape, customerShape, fits, freeShape, lotHistoryShape, lotShape, no-kind}
-use Rattle.rules.specs.Rules.{requestShape, rules, securityShape, settlementShape, summaryShape, taxRateShape}
+use Rattle.rules.specs.Rules.{permissionShape, requestShape, rules, securityShape, settlementShape, summaryShape, taxRateShape}
 use Rattle.rules.specs.Rules.{tradeHistoryShape, tradeShape}
 use borrow.Author.Needs.{needs}
 use Rattle.fields.proofs.fits_beside.Statement.{statement}
@@ -159,8 +159,16 @@ returns-17 c =
     ∙ by-kind 16 _ (e .read17 .ensures) (e .before .match .keys17)
 
 returns-18 : tie.Need-returns-18
+unfolding permissionShape
+returns-18 c =
+    let d = c .before in
+    let e = d .before .before in
+    in-two _ _ (d .before .permission .ensures) (d .in-limits18 .ensures) (c .beyond18 .ensures)
+    ∙ by-kind 17 _ (e .read18 .ensures) (e .before .match .keys18)
+
+returns-19 : tie.Need-returns-19
 unfolding decode
-returns-18 c = no-kind _ (missed 17 _ (c .match .rest))
+returns-19 c = no-kind _ (missed 18 _ (c .match .rest))
 
 pub fits-beside-spec : {M : Type 1} → statement M
 fits-beside-spec =
@@ -182,5 +190,6 @@ fits-beside-spec =
     (λ c κs. search needs) (λ c κs. search needs) (λ c κs. search needs) (λ c κs. search needs)
     (λ c κs. search needs) (λ c κs. search needs) (λ c κs. search needs) (λ c κs. search needs)
     (λ c κs. search needs) (λ c κs. search needs) (λ c κs. search needs) (λ c κs. search needs)
+    (λ c κs. search needs) (λ c κs. search needs) (λ c κs. search needs) (λ c κs. search needs)
     (λ c κs. search needs) returns returns-2 returns-3 returns-4 returns-5 returns-6 returns-7 returns-8 returns-9
-    returns-10 returns-11 returns-12 returns-13 returns-14 returns-15 returns-16 returns-17 returns-18)
+    returns-10 returns-11 returns-12 returns-13 returns-14 returns-15 returns-16 returns-17 returns-18 returns-19)

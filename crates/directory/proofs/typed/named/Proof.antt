@@ -11,7 +11,7 @@ walk-requires c κs =
     let head = c .before in
     let at-fields = head .before in
     let pre = at-fields .before .before .before .pre in
-    let group = at-fields .of-fields .ensures ∙ fields-group _ _ _ _ _ _ (pre .1 .0 .1) in
+    let group = at-fields .of-fields .ensures ∙ fields-group _ _ _ _ _ _ _ (pre .1 .0 .1) in
     (pre .0, ((c .marks .ensures, pre .1 .1), (pre .1 .0 .0, at-first (pre .0) _ group (head .first .ensures))))
 
 returns : tie.Need-returns
@@ -19,7 +19,7 @@ returns c =
     let head = c .before .before in
     let at-fields = head .before in
     let pre = at-fields .before .before .before .pre in
-    let group = at-fields .of-fields .ensures ∙ fields-group _ _ _ _ _ _ (pre .1 .0 .1) in
+    let group = at-fields .of-fields .ensures ∙ fields-group _ _ _ _ _ _ _ (pre .1 .0 .1) in
     from-first (pre .0) (key-grouped _ (pre .1 .0 .0)) group (head .first .ensures) (c .walk .ensures)
 
 pub named-spec : {M : Type 1} → statement M

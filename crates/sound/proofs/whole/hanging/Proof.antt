@@ -41,15 +41,15 @@ returns-3 : tie.Need-returns-3
 returns-3 c =
     says-no _ (unsaid (c .before .before .before .hang3 .ensures) (c .if3 .taken))
 
-own-requires : tie.Need-own-requires
-own-requires c κs =
+beside-requires : tie.Need-beside-requires
+beside-requires c κs =
     let back = c .before .before .before .before .before .before .before .before .before .before .before in
     let entry = back .before .before .before .before .before .before .before .before in
     let start = entry .pre in
-    (start .0, (start .1 .0, ((omega arith, refl), (λ e. absurd (omega arith), λ e. absurd (omega arith)))))
+    (start .0, start .1 .0)
 
 returns-4 : tie.Need-returns-4
-returns-4 c = says-no _ (unsaid (c .before .own .ensures) (c .if4 .taken))
+returns-4 c = says-no _ (unsaid (c .before .beside .ensures) (c .if4 .taken))
 
 hang-requires-4 : tie.Need-hang-requires-4
 hang-requires-4 c κs =
@@ -81,8 +81,8 @@ returns-6 c =
     let at-if5 = at-hang5 .before .before in
     let at-hang4 = at-if5 .before .before .before in
     let at-if4 = at-hang4 .before .before in
-    let at-own = at-if4 .before in
-    let at-if3 = at-own .before in
+    let at-beside = at-if4 .before in
+    let at-if3 = at-beside .before in
     let at-hang3 = at-if3 .before .before .before in
     let at-if2 = at-hang3 .before .before in
     let at-hang2 = at-if2 .before .before .before in
@@ -93,15 +93,15 @@ returns-6 c =
     let requests = said (at-hang .hang .ensures) (at-if1 .if1 .left) in
     let histories = said (at-hang2 .hang2 .ensures) (at-if2 .if2 .left) in
     let lots = said (at-hang3 .hang3 .ensures) (at-if3 .if3 .left) in
-    let lot-histories = said (at-own .own .ensures) (at-if4 .if4 .left) in
+    let beside = said (at-beside .beside .ensures) (at-if4 .if4 .left) in
     let settlements = said (at-hang4 .hang4 .ensures) (at-if5 .if5 .left) in
     let low = well-next (well-next (well-next (start .1 .1 .0) (requests .0)) (histories .0)) (lots .0) in
     says-so (at-hang5 .hang5 .ensures) _
-    (λ cash. (well-but (start .1 .0) low lot-histories (settlements .0) (cash .0), cash .1))
+    (λ cash. (well-but (start .1 .0) low (beside .0) (settlements .0) (cash .0) (beside .1), cash .1))
 
 pub hanging-spec : {M : Type 1} → statement M
 hanging-spec =
     tie.close
     (tie.spec hang-requires (λ c. search needs) returns hang-requires-2 (λ c. search needs) returns-2 hang-requires-3
-    (λ c. search needs) returns-3 own-requires (λ c. search needs) returns-4 hang-requires-4 (λ c. search needs)
+    (λ c. search needs) returns-3 beside-requires (λ c. search needs) returns-4 hang-requires-4 (λ c. search needs)
     returns-5 hang-requires-5 (λ c. search needs) returns-6)

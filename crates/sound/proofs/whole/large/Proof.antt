@@ -17,7 +17,7 @@ judged-requires c κs =
     let entry = at-narrow .before .before .before in
     let few = entry .pre .few in
     let none = at-narrow .narrow .ensures in
-    (entry .pre, (no-chains _ 4113 _ none (omega arith), marks-start _ 32768 (omega arith) (omega arith)))
+    (entry .pre, (no-chains _ 4114 _ none (omega arith), marks-start _ 32768 (omega arith) (omega arith)))
 
 pub large-spec : {M : Type 1} → statement M
 large-spec =

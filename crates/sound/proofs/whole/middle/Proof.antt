@@ -17,7 +17,7 @@ judged-requires c κs =
     let entry = at-narrow .before .before .before in
     let few = entry .pre .1 in
     let none = at-narrow .narrow .ensures in
-    (entry .pre .0, (no-chains _ 1040 _ none (omega arith), marks-start _ 8184 (omega arith) (omega arith)))
+    (entry .pre .0, (no-chains _ 1041 _ none (omega arith), marks-start _ 8184 (omega arith) (omega arith)))
 
 pub middle-spec : {M : Type 1} → statement M
 middle-spec =

@@ -17,7 +17,7 @@ judged-requires c κs =
     let entry = at-narrow .before .before .before in
     let few = entry .pre .1 in
     let none = at-narrow .narrow .ensures in
-    (entry .pre .0, (no-chains _ 144 _ none (omega arith), marks-start _ 1016 (omega arith) (omega arith)))
+    (entry .pre .0, (no-chains _ 145 _ none (omega arith), marks-start _ 1016 (omega arith) (omega arith)))
 
 pub small-spec : {M : Type 1} → statement M
 small-spec =
