@@ -6,13 +6,15 @@
 use crate::record::*;
 use crate::sound;
 
-// The statuses, in the order in which 01 lists them. "-735 and -842 for no band, at the places of
-// -732 and -841, which keep the zero rate" (2026-04).
+// The statuses, in the order in which 01 lists them. "-721 when a named executor has no row, after
+// -711 and before -712" (2026-01). "-735 and -842 for no band, at the places of -732 and -841, which
+// keep the zero rate" (2026-04).
 pub const WRONG_LENGTH: i32 = -100;
 pub const BOOK_LENGTH: i32 = -101;
 pub const NOT_SOUND: i32 = -102;
 pub const BAD_INPUT: i32 = -103;
 pub const ORDER_NO_ACCOUNT: i32 = -711;
+pub const ORDER_NOT_PERMITTED: i32 = -721;
 pub const ORDER_NO_SECURITY: i32 = -712;
 pub const ORDER_NO_TAX: i32 = -731;
 pub const ORDER_NO_RATE: i32 = -732;
@@ -65,7 +67,7 @@ impl Call {
     pub fn statuses(self) -> &'static [i32] {
         match self {
             Call::Order => &[
-                -100, -101, -102, -103, -711, -712, -731, -732, -735, -733, -104, -105, 0,
+                -100, -101, -102, -103, -711, -721, -712, -731, -732, -735, -733, -104, -105, 0,
             ],
             Call::Result => &[
                 -100, -101, -102, -103, -811, -812, -831, -841, -842, -104, -105, 0,
@@ -414,11 +416,21 @@ fn history_row(id: u64, status: u8, time: u32) -> Row {
     }
 }
 
+/// Whether this executor may trade for the account: "zero is the owner, always allowed"; another must
+/// have a row for this account (2026-01).
+fn is_permitted(book: &Book, account: u32, executor: u32) -> bool {
+    let row = book.find(PERMISSION, |row| row.party == account && row.n1 == executor);
+    executor == 0 || row.is_some()
+}
+
 fn do_order(book: &mut Book, input: &Row) -> Result<Row, i32> {
     let account = book
         .find_party(ACCOUNT, input.party)
         .ok_or(ORDER_NO_ACCOUNT)?;
     let account = book.rows[account];
+    if !is_permitted(book, account.party, input.n3) {
+        return Err(ORDER_NOT_PERMITTED);
+    }
     let security = book.find_security(input.symbol).ok_or(ORDER_NO_SECURITY)?;
     let security = book.rows[security];
     let customer = book.rows[book.find_party(CUSTOMER, account.n2).expect("S3")];

@@ -36,7 +36,7 @@ pub fn fault(book: &[u8]) -> Option<Fault> {
     for (place, record) in book.chunks_exact(RECORD).enumerate() {
         let bytes = record.try_into().unwrap();
         if let Err(field) = check_record(bytes) {
-            let why = words::why(&Row::read(bytes), field, "1 to 16");
+            let why = words::why(&Row::read(bytes), field, "1 to 17");
             return Some(found(Rule::S1, (place, why)));
         }
     }
@@ -104,6 +104,7 @@ fn named(row: &Row) -> Vec<(u8, u64)> {
         HISTORY | SETTLEMENT | CASH => vec![(TRADE, row.id)],
         LOT => vec![(TRADE, row.id), (ACCOUNT, party), (SECURITY, 0)],
         LOT_HISTORY => vec![(TRADE, row.id), (TRADE, row.m2)],
+        PERMISSION => vec![(ACCOUNT, party)],
         _ => vec![],
     }
 }

@@ -1,8 +1,10 @@
 //! What an accepted call had to do, in words, so that one sees whether random cases do enough; and
-//! why a gain or the search for a band was refused.
+//! why an executor, a gain or the search for a band was refused.
 
 use crate::calls::{
-    Call, ORDER_NO_BAND, ORDER_NO_RATE, ORDER_NO_TAX, RESULT_NO_BAND, RESULT_NO_RATE, RESULT_NO_TAX,
+    Call, BAD_INPUT, NO_ROOM, ORDER_NOT_PERMITTED, ORDER_NO_ACCOUNT, ORDER_NO_BAND,
+    ORDER_NO_CHARGE, ORDER_NO_RATE, ORDER_NO_SECURITY, ORDER_NO_TAX, OUT_OF_RANGE, RESULT_NO_BAND,
+    RESULT_NO_RATE, RESULT_NO_TAX,
 };
 use crate::record::*;
 
@@ -30,6 +32,17 @@ pub const WANTED: &[(Call, &[&str])] = &[
             "rolls back",
             "is LIFO",
             "has a rate beside a band of rate zero",
+            "is by the owner with no permission in the book",
+            "is by the owner of an account with permissions",
+            "is by an executor",
+            "is by an executor and rolls back",
+            "is by one of several executors of its account",
+            "is by an executor of several accounts",
+            "is by an executor with a broker's number",
+            "is by an executor with a customer's number",
+            "is by an executor with an account's number",
+            "is by executor 1",
+            "is by executor 999,999,999",
         ],
     ),
     (
@@ -97,30 +110,83 @@ const ONE_BELOW: &str = "is refused one share below a band";
 const ONE_ABOVE: &str = "is refused one share above a band";
 const IN_A_GAP: &str = "is refused in a gap between two bands";
 
-/// The ways to a refusal that random cases of this call should show. To -731 and -831: rates sum to
-/// zero as there are none, or none above zero. To -732 and -841: a rate of zero. To -735 and -842: no
-/// band.
-pub fn reasons(call: Call) -> &'static [&'static str] {
+/// The ways to -731 and -831: rates sum to zero as there are none, or none above zero.
+const TAX_REASONS: &[&str] = &[WITHOUT_RATES, ZERO_RATES];
+
+/// The ways to -732 and -841: a rate of zero. To -735 and -842: no band.
+pub const BAND_REASONS: &[&str] = &[
+    ONE_ZERO_BAND,
+    ZERO_BESIDE_RATE,
+    NO_BAND_AT_ALL,
+    OTHER_TYPE,
+    OTHER_TIER,
+    OTHER_EXCHANGE,
+    ONE_BELOW,
+    ONE_ABOVE,
+    IN_A_GAP,
+];
+
+const NO_PERMISSION: &str = "is refused with no permission in the book";
+const OTHER_ACCOUNT: &str = "is refused with its executor's permission of another account alone";
+const OTHER_EXECUTOR: &str = "is refused with its account's permission of another executor alone";
+const BOTH_APART: &str = "is refused with its account and its executor permitted apart";
+const OWN_BROKER: &str = "is refused for an executor with its broker's number";
+const OWN_CUSTOMER: &str = "is refused for an executor with its customer's number";
+const OWN_ACCOUNT: &str = "is refused for an executor with its account's number";
+const LOWEST: &str = "is refused for executor 1";
+const HIGHEST: &str = "is refused for executor 999,999,999";
+const BEFORE_NO_SECURITY: &str = "is refused -721 with -712 due too";
+const BEFORE_NO_TAX: &str = "is refused -721 with -731 due too";
+const BEFORE_NO_RATE: &str = "is refused -721 with -732 due too";
+const BEFORE_NO_BAND: &str = "is refused -721 with -735 due too";
+const BEFORE_NO_CHARGE: &str = "is refused -721 with -733 due too";
+const BEFORE_OUT_OF_RANGE: &str = "is refused -721 with -104 due too";
+const BEFORE_NO_ROOM: &str = "is refused -721 with -105 due too";
+const BEFORE_NOTHING: &str = "is refused -721 with nothing else due";
+const AFTER_NO_ACCOUNT: &str = "is refused -711 with -721 due too";
+const AFTER_NO_ACCOUNT_AND_SECURITY: &str = "is refused -711 with -721 and -712 due too";
+const ONE_TOO_HIGH: &str = "is refused for executor 1,000,000,000";
+const FAR_TOO_HIGH: &str = "is refused for executor 4,294,967,295";
+
+/// The ways to -721, with what else was due, and to the statuses that come before it.
+pub const EXECUTOR_REASONS: &[&str] = &[
+    NO_PERMISSION,
+    OTHER_ACCOUNT,
+    OTHER_EXECUTOR,
+    BOTH_APART,
+    OWN_BROKER,
+    OWN_CUSTOMER,
+    OWN_ACCOUNT,
+    LOWEST,
+    HIGHEST,
+    BEFORE_NO_SECURITY,
+    BEFORE_NO_TAX,
+    BEFORE_NO_RATE,
+    BEFORE_NO_BAND,
+    BEFORE_NO_CHARGE,
+    BEFORE_OUT_OF_RANGE,
+    BEFORE_NO_ROOM,
+    BEFORE_NOTHING,
+    AFTER_NO_ACCOUNT,
+    AFTER_NO_ACCOUNT_AND_SECURITY,
+    ONE_TOO_HIGH,
+    FAR_TOO_HIGH,
+];
+
+/// The ways to a refusal that random cases of this call should show.
+pub fn reasons(call: Call) -> Vec<&'static str> {
     match call {
-        Call::Order | Call::Result => &[
-            WITHOUT_RATES,
-            ZERO_RATES,
-            ONE_ZERO_BAND,
-            ZERO_BESIDE_RATE,
-            NO_BAND_AT_ALL,
-            OTHER_TYPE,
-            OTHER_TIER,
-            OTHER_EXCHANGE,
-            ONE_BELOW,
-            ONE_ABOVE,
-            IN_A_GAP,
-        ],
-        Call::Feed | Call::Lookup => &[],
+        Call::Order => [EXECUTOR_REASONS, TAX_REASONS, BAND_REASONS].concat(),
+        Call::Result => [TAX_REASONS, BAND_REASONS].concat(),
+        Call::Feed | Call::Lookup => Vec::new(),
     }
 }
 
 /// Which of them led this call to its status.
 pub fn of_refusal(call: Call, status: i32, book: &[u8], input: &[u8]) -> Vec<&'static str> {
+    if call == Call::Order && matches!(status, BAD_INPUT | ORDER_NO_ACCOUNT | ORDER_NOT_PERMITTED) {
+        return of_executor(status, book, &rows_of(input)[0]);
+    }
     let reasons_of = match status {
         ORDER_NO_TAX | RESULT_NO_TAX => of_no_tax,
         ORDER_NO_RATE | RESULT_NO_RATE => of_zero_rate,
@@ -142,6 +208,98 @@ pub fn of_refusal(call: Call, status: i32, book: &[u8], input: &[u8]) -> Vec<&'s
 fn holding<const N: usize>(list: [(bool, &'static str); N]) -> Vec<&'static str> {
     let holding = list.into_iter().filter(|(holds, _)| *holds);
     holding.map(|(_, name)| name).collect()
+}
+
+/// Why an executor was refused, or what came before it.
+fn of_executor(status: i32, book: &[u8], order: &Row) -> Vec<&'static str> {
+    let executor = order.n3;
+    if status == BAD_INPUT {
+        return holding([
+            (executor == MAX_NUMBER + 1, ONE_TOO_HIGH),
+            (executor == u32::MAX, FAR_TOO_HIGH),
+        ]);
+    }
+    let rows = rows_of(book);
+    if status == ORDER_NO_ACCOUNT {
+        // No account, no permission of it (S3).
+        let security = rows
+            .iter()
+            .any(|r| r.kind == SECURITY && r.symbol == order.symbol);
+        return holding([
+            (executor != 0, AFTER_NO_ACCOUNT),
+            (executor != 0 && !security, AFTER_NO_ACCOUNT_AND_SECURITY),
+        ]);
+    }
+    let account = account_of(&rows, order.party);
+    let permits =
+        |good: &dyn Fn(&Row) -> bool| rows.iter().any(|r| r.kind == PERMISSION && good(r));
+    let its_account = permits(&|r| r.party == order.party);
+    let its_executor = permits(&|r| r.n1 == executor);
+    // What the owner would have been told.
+    let by_owner = Row { n3: 0, ..*order };
+    let due = Call::Order.run(&mut book.to_vec(), &by_owner.write(), &mut [0; RECORD]);
+    holding([
+        (!permits(&|_| true), NO_PERMISSION),
+        (its_executor && !its_account, OTHER_ACCOUNT),
+        (its_account && !its_executor, OTHER_EXECUTOR),
+        (its_account && its_executor, BOTH_APART),
+        (executor == account.n1, OWN_BROKER),
+        (executor == account.n2, OWN_CUSTOMER),
+        (executor == account.party, OWN_ACCOUNT),
+        (executor == 1, LOWEST),
+        (executor == MAX_NUMBER, HIGHEST),
+        (due == ORDER_NO_SECURITY, BEFORE_NO_SECURITY),
+        (due == ORDER_NO_TAX, BEFORE_NO_TAX),
+        (due == ORDER_NO_RATE, BEFORE_NO_RATE),
+        (due == ORDER_NO_BAND, BEFORE_NO_BAND),
+        (due == ORDER_NO_CHARGE, BEFORE_NO_CHARGE),
+        (due == OUT_OF_RANGE, BEFORE_OUT_OF_RANGE),
+        (due == NO_ROOM, BEFORE_NO_ROOM),
+        (due == 0, BEFORE_NOTHING),
+    ])
+}
+
+/// What the search for a permission makes of an accepted order.
+fn of_permission(rows: &[Row], order: &Row) -> Vec<&'static str> {
+    let permissions: Vec<&Row> = rows.iter().filter(|r| r.kind == PERMISSION).collect();
+    let of_account = permissions
+        .iter()
+        .filter(|r| r.party == order.party)
+        .count();
+    let of_executor = permissions.iter().filter(|r| r.n1 == order.n3).count();
+    let owner = order.n3 == 0;
+    let shared = |kind: u8| !owner && rows.iter().any(|r| r.kind == kind && r.party == order.n3);
+    holding([
+        (
+            owner && permissions.is_empty(),
+            "is by the owner with no permission in the book",
+        ),
+        (
+            owner && of_account > 0,
+            "is by the owner of an account with permissions",
+        ),
+        (!owner, "is by an executor"),
+        (
+            !owner && order.flags & FLAG_ROLL_BACK != 0,
+            "is by an executor and rolls back",
+        ),
+        (
+            !owner && of_account > 1,
+            "is by one of several executors of its account",
+        ),
+        (of_executor > 1, "is by an executor of several accounts"),
+        (shared(BROKER), "is by an executor with a broker's number"),
+        (
+            shared(CUSTOMER),
+            "is by an executor with a customer's number",
+        ),
+        (
+            shared(ACCOUNT),
+            "is by an executor with an account's number",
+        ),
+        (order.n3 == 1, "is by executor 1"),
+        (order.n3 == MAX_NUMBER, "is by executor 999,999,999"),
+    ])
 }
 
 fn of_no_tax(rows: &[Row], trade: &Row) -> Vec<&'static str> {
@@ -308,6 +466,7 @@ pub fn of(
                 found.extend(of_tax(&before, account, gain, answer.tax()));
             }
             found.extend(of_band(&before, input));
+            found.extend(of_permission(&before, input));
         }
         Call::Result => {
             let (input, answer) = (&input[0], &answer[0]);

@@ -5,8 +5,9 @@
 //! rows are strewn over the places.
 
 use crate::calls::{
-    Call, MAX_ENTRIES, NO_ROOM, ORDER_NO_BAND, ORDER_NO_CHARGE, ORDER_NO_RATE, ORDER_NO_TAX,
-    OUT_OF_RANGE, RESULT_NO_BAND, RESULT_NO_RATE, RESULT_NO_TAX,
+    Call, BAD_INPUT, BOOK_LENGTH, MAX_ENTRIES, NOT_SOUND, NO_ROOM, ORDER_NO_BAND, ORDER_NO_CHARGE,
+    ORDER_NO_RATE, ORDER_NO_TAX, OUT_OF_RANGE, RESULT_NO_BAND, RESULT_NO_RATE, RESULT_NO_TAX,
+    WRONG_LENGTH,
 };
 use crate::mutate;
 use crate::record::*;
@@ -163,6 +164,8 @@ struct Maker<'a> {
     customers: Vec<u32>,
     accounts: Vec<Row>,
     securities: Vec<Row>,
+    /// Those who have permissions; there is none in a book without.
+    executors: Vec<u32>,
     /// The account whose trades are made; without one, any account's.
     turn: Option<Row>,
 }
@@ -225,6 +228,7 @@ fn rows_as_planned(rng: &mut Rng, plan: &Plan, fill: fn(&mut Maker)) -> Vec<Row>
         customers: Vec::new(),
         accounts: Vec::new(),
         securities: Vec::new(),
+        executors: Vec::new(),
         turn: None,
     };
     fill(&mut maker);
@@ -367,6 +371,8 @@ impl Maker<'_> {
             let exchange = *self.rng.pick(&exchanges);
             self.security(exchange);
         }
+        let executors = most(self.rng, 400);
+        self.permissions(executors, if focus { 20 } else { 40 });
         let rates = most(self.rng, 100);
         if !focus || self.rng.chance(70) {
             self.tax_rates(rates);
@@ -396,7 +402,7 @@ impl Maker<'_> {
 
         // What is left is filled with rows that nobody names.
         while self.room(1) {
-            match self.rng.below(4) {
+            match self.rng.below(5) {
                 0 => self.broker(),
                 1 => {
                     let tier = self.rng.between32(1, 3) as u8;
@@ -406,6 +412,7 @@ impl Maker<'_> {
                     let rate = self.rng.between32(0, MAX_RATE);
                     self.tax_rate(rate);
                 }
+                3 => self.permission(),
                 _ => self.lot_history(),
             }
         }
@@ -451,6 +458,7 @@ impl Maker<'_> {
             self.submitted_trade();
         }
         self.tax_rates(2);
+        self.permissions(2, 20);
         for typ in &types {
             for tier in &tiers {
                 for exchange in &exchanges {
@@ -578,6 +586,41 @@ impl Maker<'_> {
         };
         if self.push(row) {
             self.accounts.push(row);
+        }
+    }
+
+    /// Executors, at most one more than `most`, each of whom so many of a hundred accounts let trade. One
+    /// book in three has none.
+    fn permissions(&mut self, most: u64, accounts: u64) {
+        if self.accounts.is_empty() || self.rng.chance(33) {
+            return;
+        }
+        for _ in 0..self.rng.between(1, most + 1) {
+            let executor = any_executor(self.rng, &self.rows);
+            self.executors.push(executor);
+        }
+        for executor in self.executors.clone() {
+            for account in self.accounts.clone() {
+                if self.rng.chance(accounts) {
+                    self.permit(account.party, executor);
+                }
+            }
+        }
+    }
+
+    /// A permission of any account and executor.
+    fn permission(&mut self) {
+        if let Some(executor) = self.rng.pick_any(&self.executors).copied() {
+            let account = *self.rng.pick(&self.accounts);
+            self.permit(account.party, executor);
+        }
+    }
+
+    /// Lets this executor trade for the account, unless there is such a row already.
+    fn permit(&mut self, account: u32, executor: u32) {
+        let row = permission(account, executor);
+        if !self.rows.contains(&row) {
+            self.push(row);
         }
     }
 
@@ -946,6 +989,26 @@ pub fn random_symbol(rng: &mut Rng) -> [u8; 8] {
     symbol
 }
 
+/// An executor's number, often at one of its limits, or that of a broker, customer or account, too.
+fn any_executor(rng: &mut Rng, rows: &[Row]) -> u32 {
+    let kind = *rng.pick(&[BROKER, CUSTOMER, ACCOUNT]);
+    match (rng.below(8), rng.pick_any(&of_kind(rows, kind))) {
+        (0, _) => 1,
+        (1, _) => MAX_NUMBER,
+        (2..=4, Some(row)) => row.party,
+        _ => rng.between32(1, 300),
+    }
+}
+
+fn permission(account: u32, executor: u32) -> Row {
+    Row {
+        kind: PERMISSION,
+        party: account,
+        n1: executor,
+        ..Row::default()
+    }
+}
+
 // Inputs.
 
 pub(crate) fn of_kind(rows: &[Row], kind: u8) -> Vec<Row> {
@@ -1078,6 +1141,17 @@ pub fn order_input(rng: &mut Rng, rows: &[Row]) -> Row {
     } else {
         price_near(rng, rows, symbol)
     };
+    // Most often the owner; else an executor of the account if it has one, now and then of any.
+    let permissions = of_kind(rows, PERMISSION);
+    let own = permissions
+        .iter()
+        .filter(|row| Some(row.party) == account.map(|row| row.party));
+    let executor = match rng.below(20) {
+        0 => rng.pick_any(&permissions),
+        1..=5 => rng.pick_any(&own.collect::<Vec<_>>()).copied(),
+        _ => None,
+    };
+    let executor = executor.map_or(0, |row| row.n1);
     Row {
         kind: ORDER_INPUT,
         typ,
@@ -1090,6 +1164,7 @@ pub fn order_input(rng: &mut Rng, rows: &[Row]) -> Row {
         symbol,
         n1: shares.clamp(1, MAX_SHARES),
         n2: bid,
+        n3: executor,
         time: any_time(rng),
         ..Row::default()
     }
@@ -1183,7 +1258,7 @@ pub fn good_input(rng: &mut Rng, call: Call, rows: &[Row]) -> Vec<Row> {
     }
 }
 
-/// Makes one record of an input name an account, security or trade that is not there.
+/// Makes one record of an input name an account, security or trade that is not there, or any executor.
 pub fn name_unknown(rng: &mut Rng, call: Call, rows: &[Row], input: &mut [Row]) {
     let at = rng.index(input.len());
     match call {
@@ -1193,6 +1268,9 @@ pub fn name_unknown(rng: &mut Rng, call: Call, rows: &[Row], input: &mut [Row]) 
             }
             if rng.chance(60) {
                 input[at].symbol = unknown_symbol(rng, rows);
+            }
+            if rng.chance(40) {
+                input[at].n3 = any_executor(rng, rows);
             }
         }
         Call::Feed => input[at].symbol = unknown_symbol(rng, rows),
@@ -1223,7 +1301,6 @@ pub fn broken_records(rng: &mut Rng, call: Call, good: &Row) -> Vec<(&'static st
     with("another kind", &|row| row.kind = other);
     // No input uses these.
     with("status used", &|row| row.status = junk_byte);
-    with("n3 used", &|row| row.n3 = junk);
     with("n4 used", &|row| row.n4 = junk);
     with("m1 used", &|row| row.m1 = u64::from(junk) << 32);
     with("m2 used", &|row| row.m2 = u64::from(junk) << 24);
@@ -1232,6 +1309,7 @@ pub fn broken_records(rng: &mut Rng, call: Call, good: &Row) -> Vec<(&'static st
         with("type used", &|row| row.typ = junk_byte);
         with("flags used", &|row| row.flags = junk_byte);
         with("party used", &|row| row.party = junk);
+        with("n3 used", &|row| row.n3 = junk);
     } else {
         with("type zero", &|row| row.typ = 0);
         with("type six", &|row| row.typ = 6);
@@ -1247,6 +1325,8 @@ pub fn broken_records(rng: &mut Rng, call: Call, good: &Row) -> Vec<(&'static st
             row.n2 = if row.typ <= TMS { 1 } else { 0 }
         });
         with("bid high", &|row| row.n2 = MAX_PRICE + 1);
+        with("executor high", &|row| row.n3 = MAX_NUMBER + 1);
+        with("executor highest", &|row| row.n3 = u32::MAX);
         with("id used", &|row| row.id = u64::from(junk));
     }
     if call == Call::Order || call == Call::Feed {
@@ -1374,10 +1454,13 @@ fn case_of(rng: &mut Rng, call: Call, records: usize) -> Case {
     if matches!(call, Call::Order | Call::Result) && rng.chance(12) {
         case = to_other_bands(rng, case);
     }
+    if call == Call::Order && rng.chance(15) {
+        case = to_another_executor(rng, case);
+    }
     case
 }
 
-/// A case before it is changed for a certain gain or other bands, or moved to an edge.
+/// A case before it is changed for a certain gain, other bands or another executor, or moved to an edge.
 fn unmoved_case(rng: &mut Rng, call: Call, records: usize) -> Case {
     let plan = Plan::for_call(rng, call, records);
     let book = book_of(rng, &plan);
@@ -1778,6 +1861,90 @@ pub fn to_other_bands(rng: &mut Rng, case: Case) -> Case {
     }
     Case {
         book: bytes_of(&rows),
+        ..case
+    }
+}
+
+/// Changes who gives an order, and the permissions in its book: the owner, an executor who may, or one
+/// who may not, as all that there is are rows of another account or of another executor, or no row
+/// (2026-01). Other refusals may be due too, before it or after it. An order whose book or input is
+/// refused by itself stays as it is, as do the other calls.
+pub fn to_another_executor(rng: &mut Rng, case: Case) -> Case {
+    let (mut after, mut answer) = (case.book.clone(), case.answer.clone());
+    let status = case.call.run(&mut after, &case.input, &mut answer);
+    let by_itself = [WRONG_LENGTH, BOOK_LENGTH, NOT_SOUND, BAD_INPUT];
+    if case.call != Call::Order || by_itself.contains(&status) {
+        return case;
+    }
+    let mut rows = rows_of(&case.book);
+    let mut input = rows_of(&case.input)[0];
+    let account = input.party;
+    let executor = any_executor(rng, &rows);
+    let other_executor = loop {
+        // The next number, or one whose highest byte alone differs, or any.
+        let other = match rng.below(4) {
+            0 => executor + 1,
+            1 => executor - 1,
+            2 => executor ^ 1 << 24,
+            _ => any_executor(rng, &rows),
+        };
+        if other != executor && (1..=MAX_NUMBER).contains(&other) {
+            break other;
+        }
+    };
+    let mut accounts = of_kind(&rows, ACCOUNT);
+    // An account that is the only one often gets another beside it, if there is a place.
+    let alone = accounts.len() == 1 && accounts[0].party == account;
+    if let (true, Some(place)) = (alone && rng.chance(50), rows.iter().position(Row::is_free)) {
+        let party = unknown_party(rng, &rows, ACCOUNT);
+        rows[place] = Row {
+            party,
+            ..accounts[0]
+        };
+        accounts.push(rows[place]);
+    }
+    let others: Vec<&Row> = accounts.iter().filter(|row| row.party != account).collect();
+    let own = permission(account, executor);
+    let of_another_executor = permission(account, other_executor);
+    let of_another_account = match rng.pick_any(&others) {
+        Some(other) => permission(other.party, executor),
+        // It is left out below.
+        None => Row::default(),
+    };
+    let (named, mut permissions) = match rng.below(10) {
+        0 => (0, Vec::new()),
+        1 => (0, vec![of_another_executor, of_another_account]),
+        2 => (executor, vec![own]),
+        3 => (executor, vec![own, of_another_executor]),
+        4 => (executor, vec![own, of_another_account]),
+        5 | 6 => (executor, Vec::new()),
+        7 => (executor, vec![of_another_account]),
+        8 => (executor, vec![of_another_executor]),
+        _ => (executor, vec![of_another_account, of_another_executor]),
+    };
+    input.n3 = named;
+    // An account that is not there has no permission.
+    permissions.retain(|row| accounts.iter().any(|account| account.party == row.party));
+
+    // They take the place of all permissions of the account and of the executor. One that finds no
+    // place is left out.
+    let (mut places, mut free) = (Vec::new(), Vec::new());
+    for (place, row) in rows.iter_mut().enumerate() {
+        if row.kind == PERMISSION && (row.party == account || row.n1 == executor) {
+            *row = Row::default();
+            places.push(place);
+        } else if row.is_free() {
+            free.push(place);
+        }
+    }
+    rng.shuffle(&mut free);
+    places.extend(free);
+    for (place, row) in places.into_iter().zip(permissions) {
+        rows[place] = row;
+    }
+    Case {
+        book: bytes_of(&rows),
+        input: bytes_of(&[input]),
         ..case
     }
 }

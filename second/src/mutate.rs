@@ -175,6 +175,7 @@ pub fn used(kind: u8) -> &'static [Field] {
         LOT_HISTORY => &[Kind, Id, M2, N1, N2],
         SETTLEMENT => &[Kind, Id, Flags, M1, Time],
         CASH => &[Kind, Id, M1, Time],
+        PERMISSION => &[Kind, Party, N1],
         _ => unreachable!("the book was sound"),
     }
 }
@@ -198,9 +199,9 @@ pub const PLACES: [(Field, usize, usize); 15] = [
     (Field::N5, 60, 4),
 ];
 
-/// Sets one byte of a field that this row's kind does not use.
-fn use_unused(rng: &mut Rng, rows: &mut Vec<Row>) -> bool {
-    let Some(place) = some(rng, rows, |row| !row.is_free()) else {
+/// Sets one byte of a field that the kind of a row with this property does not use.
+fn use_unused(rng: &mut Rng, rows: &mut [Row], good: impl Fn(&Row) -> bool) -> bool {
+    let Some(place) = some(rng, rows, good) else {
         return false;
     };
     let unused: Vec<&(Field, usize, usize)> = PLACES
@@ -330,6 +331,11 @@ const OUT_OF_RANGE: &[(u8, SetField)] = &[
     (CASH, |r| r.m1 = (-MAX_MONEY - 1) as u64),
     (CASH, |r| r.id = 0),
     (CASH, |r| r.time = MAX_TIME + 1),
+    (PERMISSION, |r| r.party = 0),
+    (PERMISSION, |r| r.party = MAX_NUMBER + 1),
+    (PERMISSION, |r| r.n1 = 0),
+    (PERMISSION, |r| r.n1 = MAX_NUMBER + 1),
+    (PERMISSION, |r| r.n1 = u32::MAX),
 ];
 
 fn out_of_range(rng: &mut Rng, rows: &mut Vec<Row>) -> bool {
@@ -855,7 +861,9 @@ fn remove_named(rng: &mut Rng, rows: &mut Vec<Row>, kind: u8) -> bool {
         TAX_RATE => rows
             .iter()
             .any(|r| r.kind == CUSTOMER_RATE && r.n1 == row.party),
-        ACCOUNT => rows.iter().any(|r| r.kind == TRADE && r.party == row.party),
+        ACCOUNT => rows
+            .iter()
+            .any(|r| matches!(r.kind, TRADE | PERMISSION) && r.party == row.party),
         SECURITY => rows
             .iter()
             .any(|r| r.kind == TRADE && r.symbol == row.symbol),
@@ -903,12 +911,14 @@ use Rule::*;
 
 /// All of them.
 pub const ALL: &[Mutation] = &[
-    aim(S1, "an unused field is used", use_unused),
+    aim(S1, "an unused field is used", |g, r| {
+        use_unused(g, r, |row| !row.is_free())
+    }),
     aim(S1, "a free record has a stray byte", stray_byte),
     aim(S1, "a field is out of its range", out_of_range),
     aim(S1, "a symbol is broken", break_symbol),
-    aim(S1, "kind 17", |g, r| {
-        alter(g, r, |row| !row.is_free(), |row| row.kind = 17)
+    aim(S1, "kind 18", |g, r| {
+        alter(g, r, |row| !row.is_free(), |row| row.kind = 18)
     }),
     aim(S1, "kind 33", |g, r| {
         alter(g, r, |row| !row.is_free(), |row| row.kind = 33)
@@ -935,6 +945,15 @@ pub const ALL: &[Mutation] = &[
     aim(S1, "a completed trade has no price", |g, r| {
         alter(g, r, trade_with(CMPT), |row| row.n3 = 0)
     }),
+    aim(S1, "an executor of zero", |g, r| {
+        alter(g, r, is(PERMISSION), |row| row.n1 = 0)
+    }),
+    aim(S1, "an executor above the highest", |g, r| {
+        alter(g, r, is(PERMISSION), |row| row.n1 = MAX_NUMBER + 1)
+    }),
+    aim(S1, "a permission with a stray field", |g, r| {
+        use_unused(g, r, is(PERMISSION))
+    }),
     aim(S2, "a row twice", second_of_any_kind),
     aim(S2, "broker twice", |g, r| second_of_kind(g, r, BROKER)),
     aim(S2, "customer twice", |g, r| second_of_kind(g, r, CUSTOMER)),
@@ -958,6 +977,9 @@ pub const ALL: &[Mutation] = &[
         second_of_kind(g, r, SETTLEMENT)
     }),
     aim(S2, "cash twice", |g, r| second_of_kind(g, r, CASH)),
+    aim(S2, "permission twice", |g, r| {
+        second_of_kind(g, r, PERMISSION)
+    }),
     aim(S3, "no such broker of an account", |g, r| {
         name_nobody(g, r, ACCOUNT, Field::N1)
     }),
@@ -1014,6 +1036,9 @@ pub const ALL: &[Mutation] = &[
     }),
     aim(S3, "no such trade of a cash row", |g, r| {
         name_nobody(g, r, CASH, Field::Id)
+    }),
+    aim(S3, "no such account of a permission", |g, r| {
+        name_nobody(g, r, PERMISSION, Field::Party)
     }),
     aim(S3, "a named broker goes", |g, r| remove_named(g, r, BROKER)),
     aim(S3, "a named customer goes", |g, r| {

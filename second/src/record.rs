@@ -24,6 +24,8 @@ pub const SUMMARY: u8 = 13;
 pub const LOT_HISTORY: u8 = 14;
 pub const SETTLEMENT: u8 = 15;
 pub const CASH: u8 = 16;
+/// An executor's permission to trade for an account (2026-01).
+pub const PERMISSION: u8 = 17;
 
 // The kinds of input records, and of the answers of the first three calls.
 pub const ORDER_INPUT: u8 = 33;
@@ -295,7 +297,7 @@ fn unused_are_zero(rest: &Row) -> Result<(), Field> {
     want(rest.n5 == 0, Field::N5)
 }
 
-/// The table of kinds 1 to 16: does a record that is not free fit the grid?
+/// The table of kinds 1 to 17: does a record that is not free fit the grid?
 pub fn fits_grid(bytes: &[u8; RECORD]) -> Result<(), Field> {
     let row = Row::read(bytes);
     // Each used field is looked at and taken out (left zero); all that stays must be zero.
@@ -449,6 +451,11 @@ pub fn fits_grid(bytes: &[u8; RECORD]) -> Result<(), Field> {
             signed_money(take(&mut rest.m1), Field::M1)?;
             time(take(&mut rest.time))?;
         }
+        // "party account, n1 executor, both the key" (2026-01)
+        PERMISSION => {
+            party_number(take(&mut rest.party), Field::Party)?;
+            party_number(take(&mut rest.n1), Field::N1)?;
+        }
         _ => return Err(Field::Kind),
     }
     unused_are_zero(&rest)
@@ -483,6 +490,8 @@ pub fn check_input(kind: u8, bytes: &[u8; RECORD]) -> Result<(), Field> {
             } else {
                 price(bid, Field::N2)?;
             }
+            // "let n3 of an order name the executor; zero is the owner" (2026-01)
+            within(take(&mut rest.n3), 0, MAX_NUMBER, Field::N3)?;
             time(take(&mut rest.time))?;
         }
         // "kind 34, id, n1 price, time"

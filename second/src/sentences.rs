@@ -1,10 +1,11 @@
-//! The sentences of the rules one by one: S1 to S10 of a book, and the field rules of an input. For
-//! each there is a book, or an input, that breaks it and as little else as can be, and a neighbour
-//! that keeps it.
+//! The sentences of the rules one by one: S1 to S10 of a book, the field rules of an input, and who may
+//! give an order. For each there is a book, or an input, that breaks it and as little else as can be,
+//! and a neighbour that keeps it.
 //!
 //! Every book here is the one of "Figures to check against" with a few rows more, which the calls do
 //! not look at: a neighbour is accepted by every call.
 
+mod executors;
 mod grid;
 mod inputs;
 mod rows;
@@ -22,7 +23,8 @@ use rows::*;
 pub struct Item {
     pub label: String,
     pub book: Vec<Row>,
-    /// An input of a call, for the items about inputs. An item about books is for all four calls.
+    /// An input of a call, for the items about inputs and executors. An item about books is for all four
+    /// calls.
     pub input: Option<(Call, Vec<Row>)>,
     /// The rules that the book breaks, in order: one, but where the item says why it is more.
     pub breaks: Vec<Rule>,
@@ -101,6 +103,7 @@ pub const IMPLIED: &[(&str, &str)] = &[
     ),
     ("S1 cash id", "S3, and the trade's own number"),
     ("S1 cash m1", "S9, and the settlement's own amount"),
+    ("S1 permission party", "S3, and the account's own number"),
     ("S2 band", "S4: two bands that begin alike overlap"),
     (
         "S3 request broker",
@@ -188,11 +191,12 @@ impl List {
     }
 }
 
-/// Every sentence, in the order of the rules; those of the inputs come last.
+/// Every sentence, in the order of the rules; those of the inputs and of executors come last.
 pub fn all() -> Vec<Item> {
     let mut list = List { items: Vec::new() };
     grid::add(&mut list);
     rules::add(&mut list);
     inputs::add(&mut list);
+    executors::add(&mut list);
     list.items
 }

@@ -56,7 +56,7 @@ fn same_key(a: &Row, b: &Row) -> bool {
     }
     match a.kind {
         1 | 2 | 3 | 5 => a.party == b.party,
-        4 => a.party == b.party && a.n1 == b.n1,
+        4 | 17 => a.party == b.party && a.n1 == b.n1,
         6 => a.symbol == b.symbol,
         7 => (a.typ, a.status, a.flags, a.n1) == (b.typ, b.status, b.flags, b.n1),
         8 => a.typ == b.typ && a.status == b.status,
@@ -92,6 +92,7 @@ fn s3(rows: &[Row]) -> bool {
         12 => trade(row.id) && party(ACCOUNT, row.party) && security(row.symbol),
         13 => party(ACCOUNT, row.party) && security(row.symbol),
         14 => trade(row.id) && trade(row.m2),
+        17 => party(ACCOUNT, row.party),
         _ => true,
     })
 }

@@ -123,6 +123,10 @@ pub(crate) fn key(row: &Row) -> Row {
             key.id = row.id;
             key.m2 = row.m2;
         }
+        PERMISSION => {
+            key.party = row.party;
+            key.n1 = row.n1;
+        }
         _ => unreachable!("S1 holds here"),
     }
     key
@@ -235,6 +239,8 @@ fn s3(rows: &[Row], index: &Index) -> Result<(), Rule> {
                 trade(row.id)?;
                 trade(row.m2)?;
             }
+            // The executor is none of those that S3 lists: its number names nothing (2026-01).
+            PERMISSION => account(row.party)?,
             _ => {}
         }
     }

@@ -58,6 +58,7 @@ pub fn kind_name(kind: u8) -> &'static str {
         LOT_HISTORY => "lot history",
         SETTLEMENT => "settlement",
         CASH => "cash row",
+        PERMISSION => "permission",
         ORDER_INPUT => "order",
         RESULT_INPUT => "result",
         FEED_INPUT => "entry of a feed",
@@ -157,11 +158,18 @@ pub fn row(row: &Row) -> String {
             row.flags
         ),
         CASH => format!("cash for trade {id}: {} at time {time}", money(row.signed_m1())),
-        ORDER_INPUT => format!(
-            "order: {typ} of {shares} {symbol} for account {party}, flags {}, bid {}, time {time}",
-            row.flags,
-            price(n2)
-        ),
+        PERMISSION => format!("executor {n1} may trade for account {party}"),
+        ORDER_INPUT => {
+            let executor = match row.n3 {
+                0 => String::new(),
+                executor => format!(" by executor {executor}"),
+            };
+            format!(
+                "order: {typ} of {shares} {symbol} for account {party}{executor}, flags {}, bid {}, time {time}",
+                row.flags,
+                price(n2)
+            )
+        }
         RESULT_INPUT => format!("result of trade {id} at {}, time {time}", price(n1)),
         FEED_INPUT => format!("entry of a feed: {n2} {symbol} at {}, time {time}", price(n1)),
         LOOKUP_INPUT => format!("lookup of trade {id}"),
@@ -235,7 +243,7 @@ pub fn rule(kind: u8, field: Field) -> Option<(&'static str, &'static str)> {
             "0 until it is completed, 0..100,000,000,000,000 then",
         ),
         (REQUEST, Party) => ("the broker of the trade's account", PARTY_RANGE),
-        (TRADE | LOT | SUMMARY | ORDER_INPUT, Party) => ("the account", PARTY_RANGE),
+        (TRADE | LOT | SUMMARY | PERMISSION | ORDER_INPUT, Party) => ("the account", PARTY_RANGE),
         (BAND | CHARGE | TRADE | REQUEST | ORDER_INPUT, Typ) => ("the trade type", "1..5"),
         (LOT, N1) => ("the price", PRICE_RANGE),
         (LOT, M1) => (
@@ -253,11 +261,13 @@ pub fn rule(kind: u8, field: Field) -> Option<(&'static str, &'static str)> {
         (SETTLEMENT, Flags) => ("the cash flag", "0 or 1"),
         (SETTLEMENT | CASH, M1) => ("the amount", MONEY_RANGE),
         (SETTLEMENT, Time) => ("the time due", "0..4,000,172,800"),
+        (PERMISSION, N1) => ("the executor", PARTY_RANGE),
         (ORDER_INPUT, Flags) => ("cash 1, LIFO 2 and roll back 4, added up", "0..7"),
         (ORDER_INPUT, N2) => (
             "the bid",
             "0 for types 1 and 2, 1..99,999,999 for the others",
         ),
+        (ORDER_INPUT, N3) => ("the executor", "0 for the owner, else 1..999,999,999"),
         (RESULT_INPUT | FEED_INPUT, N1) => ("the price", PRICE_RANGE),
         (FEED_INPUT, N2) => ("the shares", SHARES_RANGE),
         (TRADE | REQUEST | ORDER_INPUT, N1) => ("the shares", SHARES_RANGE),

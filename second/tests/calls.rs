@@ -64,7 +64,7 @@ fn every_status_is_reached() {
                     }
                 }
             }
-            for name in wanted.iter().chain(features::reasons(*call)) {
+            for name in wanted.iter().chain(&features::reasons(*call)) {
                 assert!(
                     found.contains_key(name),
                     "{} {name}: {found:?}",
@@ -169,8 +169,7 @@ fn cases_of_other_bands() {
                 *still.entry(status).or_default() += 1;
             }
         }
-        // The first two are about tax.
-        let wanted = features::reasons(call)[2..].iter();
+        let wanted = features::BAND_REASONS.iter();
         for name in wanted.chain([&"has a rate beside a band of rate zero"]) {
             assert!(counts.get(name).is_some_and(|n| *n > 30), "{counts:?}");
         }
@@ -180,6 +179,52 @@ fn cases_of_other_bands() {
         for status in later {
             assert!(instead.get(status).is_some_and(|n| *n > 30), "{instead:?}");
         }
+    }
+}
+
+/// Orders changed for another executor are still on a sound book. They meet -721 for every reason, with
+/// every later refusal due too; -711 is said first. The other calls stay as they are.
+#[test]
+fn cases_of_another_executor() {
+    let mut rng = Rng::new(29);
+    let mut counts: BTreeMap<&str, u32> = BTreeMap::new();
+    let mut statuses: BTreeMap<i32, u32> = BTreeMap::new();
+    for _ in 0..6_000 {
+        let case = gen::case(&mut rng, Call::Order, 40);
+        let before = run(&case).0;
+        let moved = gen::to_another_executor(&mut rng, case.clone());
+        let (status, answer, book) = run(&moved);
+        if (-103..=-100).contains(&before) {
+            assert_eq!((&moved.book, &moved.input), (&case.book, &case.input));
+            continue;
+        }
+        assert_eq!(sound::check(&moved.book), Ok(()));
+        *statuses.entry(status).or_default() += 1;
+        // -711 comes before it; and whatever comes after it waits for it.
+        assert_eq!(before == -711, status == -711);
+        for name in features::of_refusal(Call::Order, status, &moved.book, &moved.input) {
+            *counts.entry(name).or_default() += 1;
+        }
+        if status == 0 {
+            for name in features::of(Call::Order, &moved.book, &book, &moved.input, &answer) {
+                *counts.entry(name).or_default() += 1;
+            }
+        }
+    }
+    let too_high = |name: &&&str| name.contains("1,000,000,000") || name.contains("4,294,967,295");
+    for name in features::EXECUTOR_REASONS.iter().filter(|n| !too_high(n)) {
+        assert!(
+            counts.get(name).is_some_and(|n| *n > 30),
+            "{name} {counts:?}"
+        );
+    }
+    let by = counts.iter().filter(|(name, _)| name.starts_with("is by"));
+    assert!(by.clone().all(|(_, n)| *n > 30), "{counts:?}");
+    assert_eq!(by.count(), 11);
+    for call in [Call::Result, Call::Feed, Call::Lookup] {
+        let case = gen::case(&mut rng, call, 40);
+        let same = gen::to_another_executor(&mut rng, case.clone());
+        assert_eq!((same.book, same.input), (case.book, case.input));
     }
 }
 
@@ -366,7 +411,7 @@ fn roll_back_answers_alike() {
         }
         assert_eq!(answers[0], answers[1]);
     }
-    for status in [0, -731, -732, -735, -733, -104, -105] {
+    for status in [0, -721, -731, -732, -735, -733, -104, -105] {
         assert!(counts.contains_key(&status), "{counts:?}");
     }
 }

@@ -157,8 +157,8 @@ fn written_out() {
         "n5 is 5: a trade does not use it, so it is zero"
     );
     assert_eq!(
-        said(&|rows| rows[lot].kind = 17)[2],
-        "kind is 17, and must be 1 to 16"
+        said(&|rows| rows[lot].kind = 18)[2],
+        "kind is 18, and must be 1 to 17"
     );
     assert_eq!(book_check(&[], &good[1..]).1[0], "refused -101");
     assert_eq!(book_check(&[], &[]).0, 1);
@@ -218,7 +218,7 @@ fn inputs() {
 /// A used field has its rule in words, and no other field has one.
 #[test]
 fn fields_in_words() {
-    for kind in BROKER..=CASH {
+    for kind in BROKER..=PERMISSION {
         for (field, _, _) in PLACES {
             let in_words = field == Field::Kind || words::rule(kind, field).is_some();
             assert_eq!(in_words, used(kind).contains(&field), "{kind} {field:?}");

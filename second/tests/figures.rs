@@ -1,4 +1,5 @@
-//! "Figures to check against" of 01: P1 to P9, the two rows on free places and the tally picture.
+//! "Figures to check against" of 01: P1 to P9, the two rows on free places and the tally picture; and a
+//! row beside them for the executors of 2026-01.
 
 use second::calls;
 use second::figures::{result_input, Figure};
@@ -157,8 +158,19 @@ fn p7_gain_of_three_and_of_two() {
     }
 }
 
-/// An order in the book of the figures.
+/// An order in the book of the figures, by the owner.
 fn order(book: &mut [u8], typ: u8, shares: u32, bid: u32, letters: &[u8]) -> (i32, Row) {
+    order_by(book, 0, typ, shares, bid, letters)
+}
+
+fn order_by(
+    book: &mut [u8],
+    executor: u32,
+    typ: u8,
+    shares: u32,
+    bid: u32,
+    letters: &[u8],
+) -> (i32, Row) {
     let mut input = Row {
         kind: 33,
         typ,
@@ -166,6 +178,7 @@ fn order(book: &mut [u8], typ: u8, shares: u32, bid: u32, letters: &[u8]) -> (i3
         party: 1,
         n1: shares,
         n2: bid,
+        n3: executor,
         time: 350,
         ..Row::default()
     };
@@ -231,6 +244,34 @@ fn p9_a_symbol_of_seven_and_of_eight_letters() {
     // The same in a row of the book.
     rows[free].symbol = symbol("ABCDEFGH");
     assert_eq!(sound::check(&bytes_of(&rows)), Err(sound::Rule::S1));
+}
+
+/// Beside the table, for 2026-01: in the book of P1 with a permission of account 1 for executor 7, an
+/// order by executor 7 or by the owner is accepted; one by executor 8 is -721.
+#[test]
+fn an_executor_with_a_row_and_one_without() {
+    for (executor, status) in [(7, 0), (0, 0), (8, -721)] {
+        let mut rows = rows_of(&Figure::sell(120, false).book());
+        let free = rows.iter().position(Row::is_free).unwrap();
+        rows[free] = Row {
+            kind: 17,
+            party: 1,
+            n1: 7,
+            ..Row::default()
+        };
+        let mut book = bytes_of(&rows);
+        assert_eq!(sound::check(&book), Ok(()));
+        let (found, answer) = order_by(&mut book, executor, TMS, 120, 0, b"ABC");
+        assert_eq!(found, status);
+        if status == 0 {
+            // As in P1: 110,000 gained, and rates 20,000.
+            assert_eq!((answer.id, answer.tax()), (13, 22_000));
+            assert_eq!(find(&rows_of(&book), TRADE, 13).unwrap().m1, 1_800);
+        } else {
+            assert_eq!(answer.n5 as i32, -721);
+            assert_eq!(rows_of(&book), rows);
+        }
+    }
 }
 
 #[test]

@@ -61,7 +61,7 @@ fn symbols() {
 }
 
 /// A row of each kind (two of trades, an open and a completed one) with the least in every field.
-fn plain_rows() -> [Row; 17] {
+fn plain_rows() -> [Row; 18] {
     let abc = symbol("ABC");
     let zero = Row::default();
     #[rustfmt::skip]
@@ -83,6 +83,7 @@ fn plain_rows() -> [Row; 17] {
         Row { kind: 14, id: 1, m2: 1, n2: 1, ..zero },
         Row { kind: 15, id: 1, ..zero },
         Row { kind: 16, id: 1, ..zero },
+        Row { kind: 17, party: 1, n1: 1, ..zero },
     ];
     rows
 }
@@ -97,7 +98,7 @@ fn edges_of_the_grid() {
     #[rustfmt::skip]
     let [
         broker, customer, rate, link, account, security, band, charge, open, done, request, history,
-        lot, summary, lot_history, settlement, cash,
+        lot, summary, lot_history, settlement, cash, permission,
     ] = rows;
     // Field, the lowest and the highest good value of it, in that row.
     type Set = fn(&mut Row, i64);
@@ -173,6 +174,8 @@ fn edges_of_the_grid() {
         (cash, |r, v| r.id = v as u64, 1, 999_999_999_999_999),
         (cash, |r, v| r.m1 = v as u64, -999_999_999_999_999, 999_999_999_999_999),
         (cash, |r, v| r.time = v as u32, 0, 4_000_000_000),
+        (permission, |r, v| r.party = v as u32, 1, 999_999_999),
+        (permission, |r, v| r.n1 = v as u32, 1, 999_999_999),
     ];
     for (row, set, low, high) in ranges {
         for (value, good) in [
@@ -201,8 +204,8 @@ fn edges_of_the_grid() {
     assert_eq!(check_record(&row.write()), Ok(()));
     row.n2 = 4;
     assert_eq!(check_record(&row.write()), Err(Field::N2));
-    // 0 is no kind, nor are 17 and the kinds of inputs.
-    for kind in (0..=255u8).filter(|kind| !(1..=16).contains(kind)) {
+    // 0 is no kind, nor are 18 and the kinds of inputs.
+    for kind in (0..=255u8).filter(|kind| !(1..=17).contains(kind)) {
         let mut row = broker;
         row.kind = kind;
         assert_eq!(check_record(&row.write()), Err(Field::Kind));
@@ -231,7 +234,7 @@ fn unused_fields_are_zero() {
 #[test]
 fn all_kinds_are_generated() {
     let mut rng = Rng::new(2);
-    let mut seen = [0; 17];
+    let mut seen = [0; 18];
     for _ in 0..200 {
         let book = gen::book(&mut rng, 60);
         for row in rows_of(&book).iter().filter(|row| !row.is_free()) {
@@ -292,9 +295,11 @@ fn edges_of_the_inputs() {
         (market, |r, v| r.party = v as u32, 1, 999_999_999),
         (market, |r, v| r.n1 = v as u32, 1, 999_999),
         (market, |r, v| r.n2 = v as u32, 0, 0),
+        (market, |r, v| r.n3 = v as u32, 0, 999_999_999),
         (market, |r, v| r.time = v as u32, 0, 4_000_000_000),
         (limit, |r, v| r.typ = v as u8, 3, 5),
         (limit, |r, v| r.n2 = v as u32, 1, 99_999_999),
+        (limit, |r, v| r.n3 = v as u32, 0, 999_999_999),
         (result, |r, v| r.id = v as u64, 1, 999_999_999_999_999),
         (result, |r, v| r.n1 = v as u32, 1, 99_999_999),
         (result, |r, v| r.time = v as u32, 0, 4_000_000_000),

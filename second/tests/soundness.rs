@@ -76,6 +76,28 @@ fn generated_books_are_varied() {
                     && (a.typ, a.status, a.flags) == (b.typ, b.status, b.flags)
             }),
         );
+        note("no permission", !any(&|r| r.kind == PERMISSION));
+        let permissions = |a: &Row, b: &Row| a.kind == PERMISSION && b.kind == PERMISSION;
+        note(
+            "two executors of one account",
+            two(&|a, b| permissions(a, b) && a.party == b.party),
+        );
+        note(
+            "two accounts of one executor",
+            two(&|a, b| permissions(a, b) && a.n1 == b.n1),
+        );
+        for (kind, name) in [
+            (BROKER, "an executor with a broker's number"),
+            (CUSTOMER, "an executor with a customer's number"),
+            (ACCOUNT, "an executor with an account's number"),
+        ] {
+            let executor =
+                |a: &Row, b: &Row| a.kind == PERMISSION && b.kind == kind && a.n1 == b.party;
+            note(name, two(&|a, b| executor(a, b) || executor(b, a)));
+        }
+        for (number, name) in [(1, "executor 1"), (MAX_NUMBER, "the highest executor")] {
+            note(name, any(&|r| r.kind == PERMISSION && r.n1 == number));
+        }
         let high = MAX_MONEY - 1_000_000_000;
         note(
             "balance high",

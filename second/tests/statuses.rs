@@ -147,6 +147,12 @@ fn order_status(rows: &[Row], input: &Row) -> i32 {
     let Some(account) = the(rows, |r| r.kind == ACCOUNT && r.party == input.party) else {
         return -711;
     };
+    let permission = the(rows, |r| {
+        (r.kind, r.party, r.n1) == (PERMISSION, input.party, input.n3)
+    });
+    if input.n3 != 0 && permission.is_none() {
+        return -721;
+    }
     let Some(security) = the(rows, |r| r.kind == SECURITY && r.symbol == input.symbol) else {
         return -712;
     };

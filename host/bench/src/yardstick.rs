@@ -21,8 +21,8 @@ mod table;
 
 use table::Table;
 
-/// The kinds are 1 to 16, and 0 is a free record's.
-const KINDS: usize = 17;
+/// The kinds are 1 to 17, and 0 is a free record's.
+const KINDS: usize = 18;
 
 /// What a trade is asked for by the rows that name it.
 #[derive(Clone, Copy, Default)]
@@ -57,6 +57,7 @@ pub struct Yardstick {
     /// Of each customer: the sum of its rates.
     rate_sums: Vec<u32>,
     accounts: Table,
+    permissions: Table,
     securities: Table,
     /// Type, tier and exchange, "from" and place of each band as one number, sorted.
     bands: Vec<u64>,

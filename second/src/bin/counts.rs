@@ -1,6 +1,6 @@
 //! `counts SEED COUNT [RECORDS]`: runs COUNT random cases of each call on books of at most RECORDS
-//! records, and prints how often each status came, why gains and bands were refused, and what the
-//! accepted calls had to do.
+//! records, and prints how often each status came, why executors, gains and bands were refused, and
+//! what the accepted calls had to do.
 
 use second::calls::Call;
 use second::features;

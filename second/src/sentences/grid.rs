@@ -127,6 +127,10 @@ fn ranges_of_standing_rows(list: &mut List) {
     list.range_of(CHARGE, Typ, 1, 5, alone);
     list.range_of(CHARGE, Status, 1, 3, alone);
     list.range_of(CHARGE, N1, 0, MAX_CHARGE, alone);
+    list.range_of(PERMISSION, Party, 1, MAX_NUMBER, |rows| {
+        rows[1].party = rows[0].party
+    });
+    list.range_of(PERMISSION, N1, 1, MAX_NUMBER, alone);
 }
 
 /// The fields of a trade, for each of its statuses. A pending one's request agrees with it.
@@ -321,7 +325,7 @@ fn rules_that_are_no_range(list: &mut List) {
 
 /// "Unused fields are zero", byte by byte.
 fn unused_bytes(list: &mut List) {
-    for kind in BROKER..=CASH {
+    for kind in BROKER..=PERMISSION {
         for at in unused_places(used(kind)) {
             for value in [1, 128] {
                 let mut rows = spare(kind);
@@ -336,7 +340,7 @@ fn unused_bytes(list: &mut List) {
     }
 }
 
-/// A record of kind 0 is free only if all of it is zero; and there are no kinds from 17 on.
+/// A record of kind 0 is free only if all of it is zero; and there are no kinds from 18 on.
 fn other_kinds(list: &mut List) {
     for at in 1..RECORD {
         for value in [1, 128] {
@@ -344,7 +348,7 @@ fn other_kinds(list: &mut List) {
             list.bad(&format!("S1 kind 0 byte {at}: {value}"), &[S1], &[row]);
         }
     }
-    for kind in BROKER..=CASH {
+    for kind in BROKER..=PERMISSION {
         // The rows beside it would name nothing without it.
         let row = Row {
             kind: 0,
@@ -356,19 +360,20 @@ fn other_kinds(list: &mut List) {
             &[row],
         );
     }
-    for kind in CASH + 1..=255 {
+    for kind in PERMISSION + 1..=255 {
         list.bad(&format!("S1 kind {kind}"), &[S1], &[row(kind)]);
-        // The kind that has the same lower four bits.
-        let alike = (kind - 1) % 16 + 1;
-        let row = Row {
-            kind,
-            ..spare(alike)[0]
-        };
-        list.bad(
-            &format!("S1 kind {kind} as {}", name_of(alike)),
-            &[S1],
-            &[row],
-        );
+        // The kinds that have the same lower four bits.
+        for alike in (BROKER..=PERMISSION).filter(|alike| alike % 16 == kind % 16) {
+            let row = Row {
+                kind,
+                ..spare(alike)[0]
+            };
+            list.bad(
+                &format!("S1 kind {kind} as {}", name_of(alike)),
+                &[S1],
+                &[row],
+            );
+        }
     }
 }
 

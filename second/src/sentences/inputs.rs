@@ -79,7 +79,7 @@ pub(super) fn add(list: &mut List) {
     for call in Call::ALL {
         let usual = usual_record(call);
         let used: &[Field] = match call {
-            Call::Order => &[Kind, Typ, Flags, Party, Symbol, N1, N2, Time],
+            Call::Order => &[Kind, Typ, Flags, Party, Symbol, N1, N2, N3, Time],
             Call::Result => &[Kind, Id, N1, Time],
             Call::Feed => &[Kind, Symbol, N1, N2, Time],
             Call::Lookup => &[Kind, Id],
@@ -147,5 +147,6 @@ pub(super) fn add(list: &mut List) {
         list.input_range(Call::Order, record, Flags, 0, 7);
         list.input_range(Call::Order, record, Party, 1, MAX_NUMBER);
         list.input_range(Call::Order, record, N1, 1, MAX_SHARES);
+        list.input_range(Call::Order, record, N3, 0, MAX_NUMBER);
     }
 }

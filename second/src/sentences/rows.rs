@@ -8,7 +8,7 @@ pub(super) const XYZ: [u8; 8] = *b"XYZ\0\0\0\0\0";
 /// Names of the figures' book, and more that every book here has.
 pub(super) const BROKER_1: u32 = 21;
 pub(super) const BROKER_2: u32 = 22;
-const CUSTOMER_1: u32 = 31;
+pub(super) const CUSTOMER_1: u32 = 31;
 pub(super) const CUSTOMER_2: u32 = 32;
 pub(super) const ACCOUNT_1: u32 = 11;
 pub(super) const ACCOUNT_2: u32 = 12;
@@ -174,6 +174,14 @@ fn row_of(kind: u8, id: u64) -> Row {
     Row { id, ..row(kind) }
 }
 
+pub(super) fn permission(party: u32, n1: u32) -> Row {
+    Row {
+        party,
+        n1,
+        ..row(PERMISSION)
+    }
+}
+
 // Rows that are sound together.
 
 /// A trade of this status with what it must have.
@@ -243,6 +251,7 @@ pub(super) fn spare(kind: u8) -> Vec<Row> {
             rows.swap(0, 3);
             rows
         }
+        PERMISSION => vec![permission(NEW, NEW), account(NEW)],
         _ => unreachable!("a kind of the grid"),
     }
 }
@@ -265,6 +274,7 @@ pub(super) fn name_of(kind: u8) -> &'static str {
         "lot history",
         "settlement",
         "cash",
+        "permission",
     ];
     names[usize::from(kind) - 1]
 }

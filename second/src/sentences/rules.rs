@@ -42,6 +42,7 @@ fn keys(list: &mut List) {
     twice(LOT_HISTORY, &[S2], |row| row.n1 = 8);
     twice(SETTLEMENT, &[S2, S9], |row| row.time = 1);
     twice(CASH, &[S2, S9], |row| row.time = 1);
+    twice(PERMISSION, &[S2], |_| {});
     let second = Row {
         n1: 2,
         ..lot(NEW_TRADE, 5)
@@ -64,7 +65,13 @@ fn keys(list: &mut List) {
     list.bad("S2 summary, and lots without one", &[S2, S8], &rows);
 
     let mut differ = |label: &str, rows: &[Row]| list.good(&format!("S2 {label}"), rows);
-    let parties = [broker(NEW), customer(NEW), tax_rate(NEW, 0), account(NEW)];
+    let parties = [
+        broker(NEW),
+        customer(NEW),
+        tax_rate(NEW, 0),
+        account(NEW),
+        permission(NEW, NEW),
+    ];
     differ("one number in several kinds", &parties);
     let customers = [
         customer(NEW),
@@ -144,6 +151,14 @@ fn keys(list: &mut List) {
         security(symbol("XYZZ")),
     ]);
     differ("summary symbol", &joined(&[&held(&[5], 5), &other]));
+    let permissions = |second: Row| [permission(ACCOUNT_1, NEW), second];
+    differ("permission party", &permissions(permission(ACCOUNT_2, NEW)));
+    differ(
+        "permission n1",
+        &permissions(permission(ACCOUNT_1, NEW + 1)),
+    );
+    let both = permissions(permission(ACCOUNT_1, NEW + (1 << 24)));
+    differ("permission n1's highest byte", &both);
 }
 
 /// S3: each name of each kind.
@@ -167,6 +182,7 @@ fn names(list: &mut List) {
     gone(CUSTOMER_RATE, TAX_RATE, "rate");
     gone(ACCOUNT, BROKER, "broker");
     gone(ACCOUNT, CUSTOMER, "customer");
+    gone(PERMISSION, ACCOUNT, "account");
     for status in [PNDG, SBMT, CMPT] {
         let rows = whole_trade(NEW_TRADE, status);
         if status != PNDG {

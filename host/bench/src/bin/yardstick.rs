@@ -178,9 +178,10 @@ fn fields(tally: &mut Tally, yardstick: &mut Yardstick) {
         }
         all_kinds.extend(kinds);
     }
-    tally.count((0..=CASH).all(|kind| all_kinds.contains(&kind)), || {
-        format!("rows of these kinds alone were changed: {all_kinds:?}")
-    });
+    tally.count(
+        (0..=PERMISSION).all(|kind| all_kinds.contains(&kind)),
+        || format!("rows of these kinds alone were changed: {all_kinds:?}"),
+    );
     println!("statuses of books with one field changed, and how often: {met:?}");
 }
 

@@ -101,10 +101,14 @@ CREATE TABLE cash_transaction (
     ct_t_id INTEGER PRIMARY KEY REFERENCES trade,
     ct_amt INTEGER NOT NULL,
     ct_dts INTEGER NOT NULL);
+CREATE TABLE account_permission (
+    ap_ca_id INTEGER NOT NULL REFERENCES customer_account,
+    ap_tax_id INTEGER NOT NULL,
+    PRIMARY KEY (ap_ca_id, ap_tax_id)) WITHOUT ROWID;
 ";
 
 /// The tables by the kind of their rows: the first is of kind 1.
-const NAMES: [&str; 16] = [
+const NAMES: [&str; 17] = [
     "broker",
     "customer",
     "taxrate",
@@ -121,6 +125,7 @@ const NAMES: [&str; 16] = [
     "holding_history",
     "settlement",
     "cash_transaction",
+    "account_permission",
 ];
 
 /// A field of a record, as a column has it.
@@ -168,6 +173,7 @@ fn fields(kind: u8) -> &'static [Column] {
         LOT_HISTORY => &[Id, M2, SignedN1, SignedN2],
         SETTLEMENT => &[Id, Cash, M1, Time],
         CASH => &[Id, M1, Time],
+        PERMISSION => &[Party, N1],
         _ => panic!("kind {kind} has no table"),
     }
 }
