@@ -3,7 +3,7 @@
  * The calls of the proved book, for C99 and C++11. Link libbook.a or libbook.so.
  *
  * A book is a run of 1 to 4,096 records of 64 bytes, without a header. A record of 64 zeros is free. Every other one
- * is a row of one of the kinds 1 to 16 below. Numbers are little-endian, signed ones two's complement. What a client
+ * is a row of one of the kinds 1 to 17 below. Numbers are little-endian, signed ones two's complement. What a client
  * needs first, reading and writing rows and the text of a status, is in book_row.h.
  *
  * For every call:
@@ -24,7 +24,7 @@
  * Each kind with the fields that it uses; all other fields are zero. A star marks the key. Fields are unsigned unless
  * they are called signed. Money is in cents, times are seconds from 2000-01-01. A symbol is 1 to 7 of A-Z, 0-9, "."
  * and "-", then zeros; its last byte is always zero. Trade types are listed at BOOK_TMB, trade statuses at BOOK_PNDG.
- * No call adds a row of kinds 1 to 8: the caller does. Kinds 33 to 36 are what the calls are asked with.
+ * No call adds a row of kinds 1 to 8 or 17: the caller does. Kinds 33 to 36 are what the calls are asked with.
  * @verbatim
  *  1 broker
  *    * party   1..999,999,999                 its number
@@ -112,6 +112,9 @@
  *    * id      1..999,999,999,999,999         the trade
  *      m1      -999,999,999,999,999..999,999,999,999,999   the amount, signed
  *      time    0..4,000,000,000               when
+ * 17 permission: this executor may order for this account
+ *    * party   1..999,999,999                 the account
+ *    * n1      1..999,999,999                 the executor, whose number names no row
  * 33 order
  *      type    1..5                           the trade type
  *      flags   0..7                           BOOK_FLAG_CASH, BOOK_FLAG_LIFO and BOOK_FLAG_ROLL_BACK, added up
@@ -119,6 +122,7 @@
  *      symbol                                 the security
  *      n1      1..999,999                     the shares
  *      n2      0..99,999,999                  the bid: 0 for types 1 and 2, and not 0 for the others
+ *      n3      0..999,999,999                 the executor: 0 is the account's owner, any other needs a permission
  *      time    0..4,000,000,000               when
  * 34 result
  *      id      1..999,999,999,999,999         the trade
@@ -194,6 +198,7 @@ extern "C" {
 #define BOOK_UNSOUND -102              /**< the book is not sound */
 #define BOOK_BAD_INPUT -103            /**< an input field breaks its rule */
 #define BOOK_ORDER_NO_ACCOUNT -711     /**< order: no such account */
+#define BOOK_ORDER_NOT_PERMITTED -721  /**< order: the named executor has no permission for the account */
 #define BOOK_ORDER_NO_SECURITY -712    /**< order: no such security */
 #define BOOK_ORDER_NO_TAX -731         /**< order: gain and tax status 1 or 2, yet the customer's rates sum to 0 */
 #define BOOK_ORDER_NO_RATE -732        /**< order: the band's rate is 0 */
@@ -256,6 +261,7 @@ extern "C" {
 #define BOOK_KIND_LOT_HISTORY 14  /**< lot history */
 #define BOOK_KIND_SETTLEMENT 15   /**< settlement */
 #define BOOK_KIND_CASH 16         /**< cash */
+#define BOOK_KIND_PERMISSION 17   /**< permission */
 /** @} */
 
 /** @name The kinds of input records. An order, a result and a feed answer one record of the same kind. */
@@ -301,9 +307,12 @@ extern "C" {
  * @return the status
  *
  * Statuses, in the order of checking: BOOK_BAD_LENGTH, BOOK_BAD_BOOK, BOOK_UNSOUND, BOOK_BAD_INPUT,
- * BOOK_ORDER_NO_ACCOUNT, BOOK_ORDER_NO_SECURITY, BOOK_ORDER_NO_TAX, BOOK_ORDER_NO_RATE, BOOK_ORDER_NO_BAND,
- * BOOK_ORDER_NO_CHARGE, BOOK_OVER_LIMIT (the trade's number would be above 999,999,999,999,999), BOOK_NO_ROOM,
- * BOOK_DONE. With roll back they are the same.
+ * BOOK_ORDER_NO_ACCOUNT, BOOK_ORDER_NOT_PERMITTED, BOOK_ORDER_NO_SECURITY, BOOK_ORDER_NO_TAX, BOOK_ORDER_NO_RATE,
+ * BOOK_ORDER_NO_BAND, BOOK_ORDER_NO_CHARGE, BOOK_OVER_LIMIT (the trade's number would be above 999,999,999,999,999),
+ * BOOK_NO_ROOM, BOOK_DONE. With roll back they are the same.
+ *
+ * The owner, n3 0, may always order. Another executor needs the permission row of the order's account and n3:
+ * BOOK_ORDER_NOT_PERMITTED where the book has none. No row that is added bears the executor.
  *
  * The trade's number is one more than the largest trade number of the book, or 1 if it has no trade. The price used is
  * the security's last price for types 1 and 2, and the bid for the others. The estimates are made at that price:

@@ -168,6 +168,7 @@ static inline const char *book_status_text(int32_t status)
     case BOOK_UNSOUND: return "the book is not sound";
     case BOOK_BAD_INPUT: return "an input field breaks its rule";
     case BOOK_ORDER_NO_ACCOUNT: return "order: no such account";
+    case BOOK_ORDER_NOT_PERMITTED: return "order: the named executor has no permission for the account";
     case BOOK_ORDER_NO_SECURITY: return "order: no such security";
     case BOOK_ORDER_NO_TAX: return "order: gain and tax status 1 or 2, yet the customer's rates sum to 0";
     case BOOK_ORDER_NO_RATE: return "order: the band's rate is 0";
@@ -198,6 +199,7 @@ static inline const char *book_status_name(int32_t status)
     BOOK_NAME_(BOOK_UNSOUND);
     BOOK_NAME_(BOOK_BAD_INPUT);
     BOOK_NAME_(BOOK_ORDER_NO_ACCOUNT);
+    BOOK_NAME_(BOOK_ORDER_NOT_PERMITTED);
     BOOK_NAME_(BOOK_ORDER_NO_SECURITY);
     BOOK_NAME_(BOOK_ORDER_NO_TAX);
     BOOK_NAME_(BOOK_ORDER_NO_RATE);
@@ -238,6 +240,7 @@ static inline const char *book_kind_name(uint8_t kind)
     case BOOK_KIND_LOT_HISTORY: return "lot history";
     case BOOK_KIND_SETTLEMENT: return "settlement";
     case BOOK_KIND_CASH: return "cash";
+    case BOOK_KIND_PERMISSION: return "permission";
     case BOOK_KIND_ORDER: return "order";
     case BOOK_KIND_RESULT: return "result";
     case BOOK_KIND_FEED: return "feed";

@@ -23,6 +23,7 @@ static const int32_t of_lookup[] = {SHARED, BOOK_LOOKUP_NO_TRADE};
 static const int32_t of_feed[] = {SHARED, BOOK_FEED_NO_SECURITY, BOOK_OVER_LIMIT, BOOK_NO_ROOM};
 static const int32_t of_order[] = {SHARED,
                                    BOOK_ORDER_NO_ACCOUNT,
+                                   BOOK_ORDER_NOT_PERMITTED,
                                    BOOK_ORDER_NO_SECURITY,
                                    BOOK_ORDER_NO_TAX,
                                    BOOK_ORDER_NO_RATE,

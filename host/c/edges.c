@@ -205,11 +205,13 @@ static void check_fields(void)
     broken("with n5", BOOK_AT_N5, 4, 1);
 }
 
-/* An order, its result, the result again, and a lookup, in turn on one book. */
-static void check_in_turn(void)
+/* An order, its result, the result again, and a lookup, in turn on one book. Whoever ordered, the rest is the same,
+   even where the permission is gone by then. */
+static void check_in_turn(uint32_t executor)
 {
     uint8_t *row;
     stand_p1(5);
+    add_permission(ACCOUNT, EXECUTOR);
     put(row_at(&book, AT_SECURITY), BOOK_AT_N1, 4, PRICE);
     put(row_at(&book, AT_TRADE), BOOK_AT_N2, 4, PRICE);
     put(row_at(&book, AT_TRADE), BOOK_AT_M1, 8, p1.commission);
@@ -222,6 +224,7 @@ static void check_in_turn(void)
     put(row, BOOK_AT_PARTY, 4, ACCOUNT);
     set_symbol(row, "ABC");
     put(row, BOOK_AT_N1, 4, 120);
+    put(row, BOOK_AT_N3, 4, executor);
     put(row, BOOK_AT_TIME, 4, BEFORE);
     row = add(&answer_after, BOOK_KIND_ORDER);
     put(row, BOOK_AT_ID, 8, TRADE);
@@ -239,6 +242,9 @@ static void check_in_turn(void)
     put(row_at(&book, band_at(BOOK_TMS)), BOOK_AT_N2, 4, 1000);
     expect_p1(1, p1);
     booked("and its result");
+    memset(row_at(&book, 32), 0, RECORD);
+    expect_p1(1, p1);
+    booked("and its result without the permission");
     book = book_after;
     not_booked("and the same result again", BOOK_RESULT_NOT_SUBMITTED);
     memset(&input, 0, sizeof input);
@@ -403,7 +409,9 @@ void check_edges(void)
     check_order_of_checking("and no band, as it begins with 2 shares", BOOK_AT_N1, 2, BOOK_RESULT_NO_BAND);
     check_fields();
     refuses_lengths(BOOK_KIND_RESULT, begin_good, 1, 1);
-    check_in_turn();
+    refuses_permissions(BOOK_KIND_RESULT, begin_good, ACCOUNT, 1);
+    check_in_turn(0);
+    check_in_turn(EXECUTOR);
     check_after_feeds();
     check_many_lots();
     check_largest();

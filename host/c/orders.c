@@ -1,113 +1,13 @@
 /* Samples of orders that are written out here, from the page of the rules alone. */
-#include "figures.h"
+#include "ordering.h"
 
 #include <string.h>
-
-/* The lots of the figures, and places 25 to 27 free. */
-static void stand_figures(void)
-{
-    stand("ABC", 3000);
-    add_figures();
-    add_free(&book, 3);
-}
-
-/* The input: an order of account 1. */
-static void ask(const char *letters, uint8_t type, uint8_t flags, uint32_t shares, uint32_t bid)
-{
-    uint8_t *row;
-    memset(&input, 0, sizeof input);
-    row = add(&input, BOOK_KIND_ORDER);
-    row[BOOK_AT_TYPE] = type;
-    row[BOOK_AT_FLAGS] = flags;
-    put(row, BOOK_AT_PARTY, 4, ACCOUNT);
-    set_symbol(row, letters);
-    put(row, BOOK_AT_N1, 4, shares);
-    put(row, BOOK_AT_N2, 4, bid);
-    put(row, BOOK_AT_TIME, 4, TIME);
-}
-
-struct estimate {
-    uint32_t price;
-    uint64_t commission, bought, sold, tax;
-};
-
-/* Of 120 shares sold from the lots of the figures, FIFO: at 3,000, the last price, and at a bid of 2,900. */
-static const struct estimate at_last = {3000, 1800, 250000, 360000, 22000};
-static const struct estimate at_bid = {2900, 1740, 250000, 348000, 19600};
-
-/* Expects this answer, and the book as it is. */
-static void expect_answer(uint64_t id, struct estimate estimate)
-{
-    uint8_t *row;
-    memset(&answer_after, 0, sizeof answer_after);
-    row = add(&answer_after, BOOK_KIND_ORDER);
-    put(row, BOOK_AT_ID, 8, id);
-    put(row, BOOK_AT_SYMBOL, 8, estimate.tax);
-    put(row, BOOK_AT_N1, 4, charge_of(input.bytes[BOOK_AT_TYPE]));
-    put(row, BOOK_AT_N2, 4, RATE);
-    put(row, BOOK_AT_N3, 4, estimate.price);
-    put(row, BOOK_AT_M1, 8, estimate.bought);
-    put(row, BOOK_AT_M2, 8, estimate.sold);
-    book_after = book;
-}
-
-/* Expects the trade on this place; type, account, symbol and shares are the input's. */
-static void expect_trade(size_t place, uint64_t id, uint8_t status, uint8_t flags, struct estimate estimate)
-{
-    uint8_t *row = row_at(&book_after, place);
-    row[BOOK_AT_KIND] = BOOK_KIND_TRADE;
-    row[BOOK_AT_TYPE] = input.bytes[BOOK_AT_TYPE];
-    row[BOOK_AT_STATUS] = status;
-    row[BOOK_AT_FLAGS] = flags;
-    put(row, BOOK_AT_PARTY, 4, ACCOUNT);
-    put(row, BOOK_AT_ID, 8, id);
-    memcpy(row + BOOK_AT_SYMBOL, input.bytes + BOOK_AT_SYMBOL, 8);
-    memcpy(row + BOOK_AT_N1, input.bytes + BOOK_AT_N1, 4);
-    put(row, BOOK_AT_N2, 4, estimate.price);
-    put(row, BOOK_AT_N4, 4, charge_of(input.bytes[BOOK_AT_TYPE]));
-    put(row, BOOK_AT_M1, 8, estimate.commission);
-    put(row, BOOK_AT_TIME, 4, TIME);
-}
-
-/* Expects a market order to be accepted: its trade and its history row on these places. */
-static void expect_market(uint64_t id, uint8_t flags, struct estimate estimate, size_t trade, size_t history)
-{
-    expect_answer(id, estimate);
-    expect_trade(trade, id, BOOK_SBMT, flags, estimate);
-    set_history(row_at(&book_after, history), id, BOOK_SBMT, TIME);
-}
-
-/* The same for one that waits, and its request on the third place. */
-static void expect_waiting(uint64_t id, struct estimate estimate, size_t trade, size_t history, size_t request)
-{
-    uint8_t *row = row_at(&book_after, request);
-    expect_answer(id, estimate);
-    expect_trade(trade, id, BOOK_PNDG, 0, estimate);
-    set_history(row_at(&book_after, history), id, BOOK_PNDG, TIME);
-    row[BOOK_AT_KIND] = BOOK_KIND_REQUEST;
-    row[BOOK_AT_TYPE] = input.bytes[BOOK_AT_TYPE];
-    put(row, BOOK_AT_PARTY, 4, BROKER);
-    put(row, BOOK_AT_ID, 8, id);
-    memcpy(row + BOOK_AT_SYMBOL, input.bytes + BOOK_AT_SYMBOL, 8);
-    memcpy(row + BOOK_AT_N1, input.bytes + BOOK_AT_N1, 4);
-    put(row, BOOK_AT_N2, 4, estimate.price);
-}
-
-static void ordered(const char *name)
-{
-    done(name, BOOK_KIND_ORDER);
-}
-
-static void not_ordered(const char *name, int32_t status)
-{
-    refused(name, BOOK_KIND_ORDER, RECORD, status);
-}
 
 /* A TMS on the book of the figures. */
 static void sell(const char *name, uint8_t flags, uint32_t shares, struct estimate estimate)
 {
     stand_figures();
-    ask("ABC", BOOK_TMS, flags, shares, 0);
+    ask_order("ABC", BOOK_TMS, flags, shares, 0);
     expect_market(12, flags, estimate, 25, 26);
     ordered(name);
 }
@@ -129,11 +29,11 @@ static void check_figures(void)
     add_lot(10, -50, 3000, 100);
     add_summary(-50);
     add_free(&book, 3);
-    ask("ABC", BOOK_TMB, 0, 80, 0);
+    ask_order("ABC", BOOK_TMB, 0, 80, 0);
     expect_market(11, 0, short_lot, 21, 22);
     ordered("P5: an order to buy 80 over a lot of -50");
     stand_figures();
-    ask("ABC", BOOK_TMB, 0, 120, 0);
+    ask_order("ABC", BOOK_TMB, 0, 120, 0);
     expect_market(12, 0, none, 25, 26);
     ordered("a buy closes no positive lot");
 }
@@ -145,12 +45,12 @@ static void check_lots(void)
     add_lot(11, 100, 2000, 100);
     add_summary(150);
     add_free(&book, 2);
-    ask("ABC", BOOK_TMS, 0, 120, 0);
+    ask_order("ABC", BOOK_TMS, 0, 120, 0);
     expect_market(12, 0, at_last, 25, 26);
     ordered("lots by time and not by number");
     stand_among_others();
     add_free(&book, 2);
-    ask("ABC", BOOK_TMS, 0, 120, 0);
+    ask_order("ABC", BOOK_TMS, 0, 120, 0);
     expect_market(12, 0, at_last, 37, 38);
     ordered("lots of another account and of another symbol stay out");
 }
@@ -165,10 +65,10 @@ static void check_ties(void)
     add_lot(10, 100, 2000, 100);
     add_summary(150);
     add_free(&book, 2);
-    ask("ABC", BOOK_TMS, 0, 1, 0);
+    ask_order("ABC", BOOK_TMS, 0, 1, 0);
     expect_market(12, 0, lower, 25, 26);
     ordered("FIFO, lots of one time");
-    ask("ABC", BOOK_TMS, BOOK_FLAG_LIFO, 1, 0);
+    ask_order("ABC", BOOK_TMS, BOOK_FLAG_LIFO, 1, 0);
     expect_market(12, BOOK_FLAG_LIFO, higher, 25, 26);
     ordered("LIFO, lots of one time");
 }
@@ -179,7 +79,7 @@ static void buy_one(const char *name, uint32_t price, uint32_t commission)
     const struct estimate estimate = {price, commission, 0, 0, 0};
     stand("ABC", price);
     add_free(&book, 2);
-    ask("ABC", BOOK_TMB, 0, 1, 0);
+    ask_order("ABC", BOOK_TMB, 0, 1, 0);
     expect_market(1, 0, estimate, STANDING, STANDING + 1);
     ordered(name);
 }
@@ -192,7 +92,7 @@ static void gain(uint32_t bought_at, uint8_t tax_status)
     add_lot(10, 1, bought_at, 100);
     add_summary(1);
     add_free(&book, 2);
-    ask("ABC", BOOK_TMS, 0, 1, 0);
+    ask_order("ABC", BOOK_TMS, 0, 1, 0);
 }
 
 static void taxed(const char *name, uint32_t bought_at, uint8_t tax_status, uint64_t tax)
@@ -261,7 +161,7 @@ static void large_gain(const struct gain *gain, uint8_t type, uint8_t tax_status
         figures.price, figures.commission, figures.bought, figures.sold, gain->tax};
     stand_large(gain, type, tax_status);
     add_free(&book, 2);
-    ask("ABC", type, 0, gain->shares, 0);
+    ask_order("ABC", type, 0, gain->shares, 0);
     expect_market(12, 0, estimate, 25, 26);
     ordered(gain->name);
 }
@@ -271,7 +171,7 @@ static void buy_of(const char *letters)
 {
     stand("ABCDEFG", 3000);
     add_free(&book, 2);
-    ask(letters, BOOK_TMB, 0, 1, 0);
+    ask_order(letters, BOOK_TMB, 0, 1, 0);
 }
 
 static void check_symbols(void)
@@ -285,7 +185,7 @@ static void check_symbols(void)
     buy_of("ABCDEF");
     not_ordered("a security's symbol without its last letter", BOOK_ORDER_NO_SECURITY);
     stand_figures();
-    ask("ABC", BOOK_TMS, 0, 120, 0);
+    ask_order("ABC", BOOK_TMS, 0, 120, 0);
     input.bytes[BOOK_AT_SYMBOL + 4] = 'X';
     not_ordered("an order with a stray byte after the symbol's zero", BOOK_BAD_INPUT);
     input.bytes[BOOK_AT_SYMBOL + 4] = 0;
@@ -296,16 +196,16 @@ static void check_symbols(void)
 static void check_places(void)
 {
     stand_with_holes();
-    ask("ABC", BOOK_TLS, 0, 120, 2900);
+    ask_order("ABC", BOOK_TLS, 0, 120, 2900);
     expect_waiting(12, at_bid, 16, 21, 26);
     ordered("trade, history and request on the lowest free places");
-    ask("ABC", BOOK_TSL, 0, 120, 2900);
+    ask_order("ABC", BOOK_TSL, 0, 120, 2900);
     expect_waiting(12, at_bid, 16, 21, 26);
     ordered("a stop loss waits and sells");
-    ask("ABC", BOOK_TLB, 0, 120, 2900);
+    ask_order("ABC", BOOK_TLB, 0, 120, 2900);
     expect_waiting(12, (struct estimate){2900, 1740, 0, 0, 0}, 16, 21, 26);
     ordered("a limit buy waits and buys");
-    ask("ABC", BOOK_TMS, 0, 120, 0);
+    ask_order("ABC", BOOK_TMS, 0, 120, 0);
     expect_market(12, 0, at_last, 16, 21);
     ordered("a market order is submitted and has no request");
 }
@@ -313,13 +213,13 @@ static void check_places(void)
 static void check_roll_back(void)
 {
     stand_figures();
-    ask("ABC", BOOK_TMS, BOOK_FLAG_ROLL_BACK, 120, 0);
+    ask_order("ABC", BOOK_TMS, BOOK_FLAG_ROLL_BACK, 120, 0);
     expect_answer(12, at_last);
     ordered("a market order rolled back");
-    ask("ABC", BOOK_TLS, BOOK_FLAG_ROLL_BACK + BOOK_FLAG_CASH, 120, 2900);
+    ask_order("ABC", BOOK_TLS, BOOK_FLAG_ROLL_BACK + BOOK_FLAG_CASH, 120, 2900);
     expect_answer(12, at_bid);
     ordered("a limit order rolled back");
-    ask("ABC", BOOK_TMS, BOOK_FLAG_ROLL_BACK + BOOK_FLAG_LIFO, 120, 0);
+    ask_order("ABC", BOOK_TMS, BOOK_FLAG_ROLL_BACK + BOOK_FLAG_LIFO, 120, 0);
     expect_answer(12, (struct estimate){3000, 1800, 265000, 360000, 19000});
     ordered("a LIFO order rolled back");
     book.length -= 2 * RECORD;
@@ -329,12 +229,12 @@ static void check_roll_back(void)
 static void check_room(void)
 {
     stand_figures();
-    ask("ABC", BOOK_TLS, 0, 120, 2900);
+    ask_order("ABC", BOOK_TLS, 0, 120, 2900);
     expect_waiting(12, at_bid, 25, 26, 27);
     ordered("a limit order, 3 places free");
     book.length -= RECORD;
     not_ordered("a limit order, 2 places free", BOOK_NO_ROOM);
-    ask("ABC", BOOK_TMS, 0, 120, 0);
+    ask_order("ABC", BOOK_TMS, 0, 120, 0);
     expect_market(12, 0, at_last, 25, 26);
     ordered("a market order, 2 places free");
     book.length -= RECORD;
@@ -352,7 +252,7 @@ static void number_after(const char *name, uint64_t largest, uint64_t number)
     add_completed(largest, 1, 2000, 100);
     add_completed(7, 1, 2000, 100);
     add_free(&book, 2);
-    ask("ABC", BOOK_TMS, 0, 1, 0);
+    ask_order("ABC", BOOK_TMS, 0, 1, 0);
     if (number == 0) {
         not_ordered(name, BOOK_OVER_LIMIT);
         return;
@@ -375,7 +275,7 @@ static void searched(const struct search *search)
     stand("ABC", 3000);
     set_bands(search);
     add_free(&book, 2);
-    ask("ABC", BOOK_TMS, 0, search->shares, 0);
+    ask_order("ABC", BOOK_TMS, 0, search->shares, 0);
     if (search->rate <= 0) {
         not_ordered(search->name, search->rate == NO_BAND ? BOOK_ORDER_NO_BAND : BOOK_ORDER_NO_RATE);
         return;
@@ -390,7 +290,7 @@ static void without_rate(const char *name, uint8_t type)
 {
     stand("ABC", 3000);
     add_free(&book, 3);
-    ask("ABC", type, 0, 10, type > BOOK_TMS ? 2900 : 0);
+    ask_order("ABC", type, 0, 10, type > BOOK_TMS ? 2900 : 0);
     put(row_at(&book, band_at(type)), BOOK_AT_N3, 4, 0);
     not_ordered(name, BOOK_ORDER_NO_RATE);
     memset(row_at(&book, band_at(type)), 0, RECORD);
@@ -412,11 +312,11 @@ static void check_charges(void)
     stand("ABC", 3000);
     add_free(&book, 2);
     memset(row_at(&book, charge_at(BOOK_TMS)), 0, RECORD);
-    ask("ABC", BOOK_TMS, 0, 1000, 0);
+    ask_order("ABC", BOOK_TMS, 0, 1000, 0);
     not_ordered("no charge", BOOK_ORDER_NO_CHARGE);
-    ask("ABC", BOOK_TMS, 0, 1001, 0);
+    ask_order("ABC", BOOK_TMS, 0, 1001, 0);
     not_ordered("no charge and no band", BOOK_ORDER_NO_BAND);
-    ask("ABC", BOOK_TMS, BOOK_FLAG_ROLL_BACK, 1001, 0);
+    ask_order("ABC", BOOK_TMS, BOOK_FLAG_ROLL_BACK, 1001, 0);
     not_ordered("the same, rolled back", BOOK_ORDER_NO_BAND);
     put(row_at(&book, band_at(BOOK_TMS)), BOOK_AT_N2, 4, 1001);
     put(row_at(&book, band_at(BOOK_TMS)), BOOK_AT_N3, 4, 0);
@@ -429,7 +329,7 @@ static void crowd(uint64_t largest)
     stand("ABC", 3000);
     add_lot(largest, 1, 2000, 100);
     add_summary(1);
-    ask("ABC", BOOK_TMS, 0, 1, 0);
+    ask_order("ABC", BOOK_TMS, 0, 1, 0);
 }
 
 /* Each fault comes before those that were there already. The band's is that this field has this value. */
@@ -447,6 +347,8 @@ static void check_order_of_checking(const char *name, size_t at, uint32_t value,
     not_ordered("and a gain with rates of 0", BOOK_ORDER_NO_TAX);
     set_symbol(input.bytes, "ABD");
     not_ordered("and no such security", BOOK_ORDER_NO_SECURITY);
+    set_executor(EXECUTOR);
+    not_ordered("and an executor without a permission", BOOK_ORDER_NOT_PERMITTED);
     put(input.bytes, BOOK_AT_PARTY, 4, ACCOUNT + 1);
     not_ordered("and no such account", BOOK_ORDER_NO_ACCOUNT);
     put(input.bytes, BOOK_AT_N2, 4, 1);
@@ -458,7 +360,7 @@ static void check_order_of_checking(const char *name, size_t at, uint32_t value,
 static void broken(const char *name, size_t at, size_t width, uint64_t value)
 {
     stand_figures();
-    ask("ABC", BOOK_TLS, 0, 120, 2900);
+    ask_order("ABC", BOOK_TLS, 0, 120, 2900);
     put(input.bytes, at, width, value);
     not_ordered(name, BOOK_BAD_INPUT);
 }
@@ -475,16 +377,18 @@ static void check_fields(void)
     broken("an order of 1,000,000 shares", BOOK_AT_N1, 4, 1000000);
     broken("a limit order without a bid", BOOK_AT_N2, 4, 0);
     broken("a bid of 100,000,000", BOOK_AT_N2, 4, 100000000);
+    broken("an executor of 1,000,000,000", BOOK_AT_N3, 4, 1000000000);
     broken("a time too late", BOOK_AT_TIME, 4, 4000000001u);
     broken("an unused status", BOOK_AT_STATUS, 1, 1);
     broken("an unused number", BOOK_AT_ID, 8, 1);
+    broken("an unused n4", BOOK_AT_N4, 4, 1);
     broken("an unused n5", BOOK_AT_N5, 4, 1);
 }
 
 static void begin_good(void)
 {
     stand_figures();
-    ask("ABC", BOOK_TMS, 0, 120, 0);
+    ask_order("ABC", BOOK_TMS, 0, 120, 0);
 }
 
 /* The largest book there may be, with its last three places free. */
@@ -493,7 +397,7 @@ static void check_largest(void)
     stand("ABC", 3000);
     add_figures();
     fill_up(3);
-    ask("ABC", BOOK_TLS, 0, 120, 2900);
+    ask_order("ABC", BOOK_TLS, 0, 120, 2900);
     expect_waiting(12, at_bid, BOOK_MOST_RECORDS - 3, BOOK_MOST_RECORDS - 2, BOOK_MOST_RECORDS - 1);
     ordered("an order on a book of 4,096 records");
 }
@@ -517,5 +421,6 @@ void check_orders(void)
     check_order_of_checking("and no band, as it begins with 2 shares", BOOK_AT_N1, 2, BOOK_ORDER_NO_BAND);
     check_fields();
     refuses_lengths(BOOK_KIND_ORDER, begin_good, 1, 1);
+    refuses_permissions(BOOK_KIND_ORDER, begin_good, ACCOUNT, 1);
     check_largest();
 }

@@ -109,7 +109,7 @@ static void check_statuses(void)
         }
     for (n = 0, status = -1000; status <= 1000; status++)
         n += strcmp(book_status_text(status), none) != 0;
-    want(n == 20, "a text for what is no status");
+    want(n == 21, "a text for what is no status");
     want(strcmp(book_status_name(BOOK_NO_ROOM), "BOOK_NO_ROOM") == 0, "the name of a status");
     want(book_status_name(1)[0] == '\0', "a name for what is no status");
 }
@@ -136,7 +136,7 @@ void check_rows(void)
     check_round_trips();
     check_fields();
     check_numbers();
-    check_names("the names of the kinds", book_kind_name, 1 + 16 + 4);
+    check_names("the names of the kinds", book_kind_name, 1 + 17 + 4);
     check_names("the names of the trade types", book_type_name, 5);
     check_names("the names of the trade statuses", book_trade_status_name, 3);
     check_statuses();

@@ -58,6 +58,14 @@ void add_history(struct rows *rows, uint64_t id, uint8_t status, uint32_t time)
     set_history(add(rows, BOOK_KIND_HISTORY), id, status, time);
 }
 
+uint8_t *add_permission(uint32_t account, uint32_t executor)
+{
+    uint8_t *row = add(&book, BOOK_KIND_PERMISSION);
+    put(row, BOOK_AT_PARTY, 4, account);
+    put(row, BOOK_AT_N1, 4, executor);
+    return row;
+}
+
 /* Has the call run several times, so that its areas lie differently. */
 static void hold(const char *name, uint8_t kind, size_t answer_length, int32_t status)
 {
@@ -108,4 +116,42 @@ void refuses_lengths(uint8_t kind, void (*begin_good)(void), size_t most_inputs,
         book.length = books[n];
         refused("a book of a wrong length", kind, one, BOOK_BAD_BOOK);
     }
+}
+
+void refuses_permissions(uint8_t kind, void (*begin_good)(void), uint32_t account, size_t answers)
+{
+    const struct {
+        const char *name;
+        uint32_t account, executor;
+    } rows[] = {
+        {"a permission for executor 0", account, 0},
+        {"a permission for executor 1,000,000,000", account, 1000000000},
+        {"a permission for executor 4,294,967,295", account, UINT32_MAX},
+        {"a permission of account 0", 0, EXECUTOR},
+        {"a permission of account 1,000,000,000", 1000000000, EXECUTOR},
+        {"a permission of an account that is not there", account + 1, EXECUTOR},
+        {"the same, where the executor's number is an account's", account + 1, account},
+    };
+    uint8_t *row;
+    size_t n;
+    for (n = 0; n < sizeof rows / sizeof rows[0]; n++) {
+        begin_good();
+        add_permission(rows[n].account, rows[n].executor);
+        refused(rows[n].name, kind, answers * RECORD, BOOK_UNSOUND);
+    }
+    begin_good();
+    row = add_permission(account, EXECUTOR);
+    for (n = BOOK_AT_TYPE; n < RECORD; n++) {
+        if ((n >= BOOK_AT_PARTY && n < BOOK_AT_ID) || (n >= BOOK_AT_N1 && n < BOOK_AT_N2))
+            continue;
+        row[n] = 1;
+        refused("a permission with a stray byte", kind, answers * RECORD, BOOK_UNSOUND);
+        row[n] = 0;
+    }
+    row[BOOK_AT_KIND] = BOOK_KIND_PERMISSION + 1;
+    refused("a permission of another kind", kind, answers * RECORD, BOOK_UNSOUND);
+    row[BOOK_AT_KIND] = BOOK_KIND_PERMISSION;
+    add_permission(account, EXECUTOR + 1);
+    add_permission(account, EXECUTOR);
+    refused("a permission twice", kind, answers * RECORD, BOOK_UNSOUND);
 }

@@ -265,6 +265,25 @@ static void check_lookups(void)
     refused("and so is the answer's", BOOK_KIND_LOOKUP, 2 * input.length - 1, BOOK_BAD_LENGTH);
 }
 
+/* Permissions make no difference to a feed or a lookup. */
+static void check_permissions(void)
+{
+    add_two_trades();
+    add_permission(ACCOUNT, EXECUTOR);
+    add_permission(ACCOUNT, ACCOUNT);
+    add_free(&book, 1);
+    ask(21, 7, 0);
+    ask(20, 4, 6);
+    done("a lookup on a book with permissions", BOOK_KIND_LOOKUP);
+    memset(&input, 0, sizeof input);
+    memset(&answer_after, 0, sizeof answer_after);
+    add_entry("ABC", 700, 30, 77);
+    expect_fed(700, VOLUME + 30, 77);
+    expect_submitted(21, 7, 9, 12, 77);
+    expect_counts(1, 1);
+    done("a feed on a book with permissions", BOOK_KIND_FEED);
+}
+
 static void begin_good_lookup(void)
 {
     add_two_trades();
@@ -295,10 +314,14 @@ void check_written(void)
     check_places();
     check_entries();
     check_lookups();
+    check_permissions();
     refuses_lengths(BOOK_KIND_LOOKUP, begin_good_lookup, BOOK_MOST_INPUTS, 2);
     refuses_lengths(BOOK_KIND_FEED, begin_good_feed, BOOK_MOST_INPUTS, 1);
+    refuses_permissions(BOOK_KIND_LOOKUP, begin_good_lookup, ACCOUNT, 2);
+    refuses_permissions(BOOK_KIND_FEED, begin_good_feed, ACCOUNT, 1);
     check_largest();
     check_orders();
+    check_executors();
     check_results();
     check_areas();
     check_rows();

@@ -10,9 +10,11 @@
 #include <string.h>
 
 enum { ACCOUNT = 1, BROKER = 21, CUSTOMER = 31, TAX_RATE = 41, TIER = 2, EXCHANGE = 3, RECORDS = 48 };
+enum { SPOUSE = 51, ADVISER = 52 };
 enum { MORNING = 34200, MINUTE = 60 };
 
-/* The account of the rules' figures: 10,000.00, and two lots of ABC. Prices and amounts are in cents. */
+/* The account of the rules' figures: 10,000.00, and two lots of ABC. The owner's spouse may order for it, too. Prices
+   and amounts are in cents. */
 static const struct book_row sample[] = {
     {.kind = BOOK_KIND_BROKER, .party = BROKER, .n1 = 7, .m1 = 9000},
     {.kind = BOOK_KIND_CUSTOMER, .party = CUSTOMER, .type = TIER},
@@ -37,6 +39,7 @@ static const struct book_row sample[] = {
     {.kind = BOOK_KIND_SETTLEMENT, .id = 11, .m1 = -125000, .time = 200 + 172800},
     {.kind = BOOK_KIND_LOT, .id = 11, .party = ACCOUNT, .symbol = "ABC", .n1 = 2500, .m1 = 50, .time = 200},
     {.kind = BOOK_KIND_SUMMARY, .party = ACCOUNT, .symbol = "ABC", .m1 = 150},
+    {.kind = BOOK_KIND_PERMISSION, .party = ACCOUNT, .n1 = SPOUSE},
 };
 enum { SAMPLE_ROWS = sizeof sample / sizeof sample[0] };
 
@@ -188,8 +191,8 @@ static int wrong_count(const char *name, int64_t found, int64_t expected)
 static int run_day(struct book *book)
 {
     static const uint64_t looked_up[] = {12, 14};
-    struct reply sell, buy, stop, fence, prices, sold, bought;
-    struct book_row seen[4];
+    struct reply sell, buy, stop, permitted, not_permitted, fence, prices, sold, bought;
+    struct book_row by_executor, seen[4];
     int32_t found;
     int faults = 0;
 
@@ -204,18 +207,26 @@ static int run_day(struct book *book)
            "waiting in the evening.\n");
     stop = order(book, &(struct book_row){.kind = BOOK_KIND_ORDER, .type = BOOK_TSL, .party = ACCOUNT, .symbol = "ABC",
                                           .n1 = 30, .n2 = 2000, .time = MORNING + 2 * MINUTE});
-    printf("\n4. Order with the symbol ABCDEFGH: its eighth byte, the fence, must be zero and is a letter. It is "
+    by_executor = (struct book_row){.kind = BOOK_KIND_ORDER, .type = BOOK_TLB, .party = ACCOUNT, .symbol = "ABC",
+                                    .n1 = 10, .n2 = 2500, .n3 = SPOUSE, .time = MORNING + 3 * MINUTE};
+    printf("\n4. Order: the owner's spouse, executor %d, buys 10 ABC for account 1 if the price falls to 25.00. The "
+           "book has the permission, and the order waits.\n", SPOUSE);
+    permitted = order(book, &by_executor);
+    printf("\n5. The same by an adviser, executor %d, for whom the book has no permission. It is refused.\n", ADVISER);
+    by_executor.n3 = ADVISER;
+    not_permitted = order(book, &by_executor);
+    printf("\n6. Order with the symbol ABCDEFGH: its eighth byte, the fence, must be zero and is a letter. It is "
            "refused.\n");
     fence = order(book, &(struct book_row){.kind = BOOK_KIND_ORDER, .type = BOOK_TMS, .party = ACCOUNT,
-                                           .symbol = "ABCDEFGH", .n1 = 10, .time = MORNING + 3 * MINUTE});
-    printf("\n5. Result: the sell, trade 12, is carried out at 30.00. The oldest lots go first.\n");
-    sold = result(book, 12, 3000, MORNING + 4 * MINUTE);
-    printf("\n6. Feed: 500 ABC were traded at 28.90. That submits the buy, whose bid is 29.00.\n");
+                                           .symbol = "ABCDEFGH", .n1 = 10, .time = MORNING + 4 * MINUTE});
+    printf("\n7. Result: the sell, trade 12, is carried out at 30.00. The oldest lots go first.\n");
+    sold = result(book, 12, 3000, MORNING + 5 * MINUTE);
+    printf("\n8. Feed: 500 ABC were traded at 28.90. That submits the buy, whose bid is 29.00.\n");
     prices = feed(book, &(struct book_row){.kind = BOOK_KIND_FEED, .symbol = "ABC", .n1 = 2890, .n2 = 500,
-                                           .time = MORNING + 5 * MINUTE});
-    printf("\n7. Result: the buy, trade 13, is carried out at 28.90.\n");
-    bought = result(book, 13, 2890, MORNING + 6 * MINUTE);
-    printf("\n8. Lookup of trades 12 and 14, each with its settlement.\n");
+                                           .time = MORNING + 6 * MINUTE});
+    printf("\n9. Result: the buy, trade 13, is carried out at 28.90.\n");
+    bought = result(book, 13, 2890, MORNING + 7 * MINUTE);
+    printf("\n10. Lookup of trades 12 and 14, each with its settlement.\n");
     found = look_up(book, looked_up, seen);
     printf("\nAccount %d ends the day with %s.\n\nThe day's figures, checked:\n", ACCOUNT, MONEY(balance(book)));
 
@@ -224,6 +235,10 @@ static int run_day(struct book *book)
     faults += wrong_count("status of the buy", buy.status, BOOK_DONE);
     faults += wrong_count("number of its trade", (int64_t)buy.answer.id, 13);
     faults += wrong_count("status of the stop loss", stop.status, BOOK_DONE);
+    faults += wrong_count("status of the spouse's order", permitted.status, BOOK_DONE);
+    faults += wrong_count("number of its trade", (int64_t)permitted.answer.id, 15);
+    faults += wrong_count("status of the adviser's order", not_permitted.status, BOOK_ORDER_NOT_PERMITTED);
+    faults += wrong_count("rows that it changed", (int64_t)not_permitted.changed, 0);
     faults += wrong_count("status of the symbol without its fence", fence.status, BOOK_BAD_INPUT);
     faults += wrong_count("rows that it changed", (int64_t)fence.changed, 0);
     faults += wrong_count("status of the sell's result", sold.status, BOOK_DONE);

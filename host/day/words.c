@@ -104,6 +104,9 @@ void say_row(const struct book_row *row)
     case BOOK_KIND_CASH:
         printf("cash for trade %" PRIu64 ": %s on %s\n", row->id, MONEY(row->m1), DATE(row->time));
         break;
+    case BOOK_KIND_PERMISSION:
+        printf("executor %" PRId32 " may order for account %" PRIu32 "\n", row->n1, row->party);
+        break;
     default: printf("a record of kind %d\n", row->kind);
     }
 }

@@ -25,7 +25,7 @@ static int32_t lookup(uint8_t *book, size_t book_len, const uint8_t *input, size
     return book_lookup(book, book_len, input, input_len, answer, answer_len);
 }
 
-enum { MOST_STATUSES = 13 };
+enum { MOST_STATUSES = 14 };
 static const struct {
     const char *name;
     call_function *call;
@@ -34,8 +34,8 @@ static const struct {
     {"order",
      book_order,
      {BOOK_DONE, BOOK_BAD_LENGTH, BOOK_BAD_BOOK, BOOK_UNSOUND, BOOK_BAD_INPUT, BOOK_ORDER_NO_ACCOUNT,
-      BOOK_ORDER_NO_SECURITY, BOOK_ORDER_NO_TAX, BOOK_ORDER_NO_RATE, BOOK_ORDER_NO_BAND, BOOK_ORDER_NO_CHARGE,
-      BOOK_OVER_LIMIT, BOOK_NO_ROOM}},
+      BOOK_ORDER_NOT_PERMITTED, BOOK_ORDER_NO_SECURITY, BOOK_ORDER_NO_TAX, BOOK_ORDER_NO_RATE, BOOK_ORDER_NO_BAND,
+      BOOK_ORDER_NO_CHARGE, BOOK_OVER_LIMIT, BOOK_NO_ROOM}},
     {"result",
      book_result,
      {BOOK_DONE, BOOK_BAD_LENGTH, BOOK_BAD_BOOK, BOOK_UNSOUND, BOOK_BAD_INPUT, BOOK_RESULT_NO_TRADE,
@@ -114,8 +114,10 @@ static void one_call(struct book *book)
         if (length % BOOK_RECORD_SIZE != 0 || length == 0 || length == (size_t)MOST_BYTES)
             made(call, book->bytes, length, input, input_len, answer, answer_len);
         return;
-    } else if (harm == 5)
+    } else if (harm == 5) {
         change_band(book);
+        change_permission(book);
+    }
     int32_t status = made(call, book->bytes, book->length, input, input_len, answer, answer_len);
     if (call == ORDER && status == BOOK_DONE)
         book->trades = book_get_u64(answer + BOOK_AT_ID);

@@ -2,13 +2,14 @@
 
 #include <string.h>
 
-/* No expression draws twice without an order between the draws: a compiler may choose which comes first. */
-static uint64_t state;
+/* No expression draws twice without an order between the draws: a compiler may choose which comes first. Permissions
+   and executors are drawn by a generator of their own, so that all else is as it would be without them. */
+static uint64_t state, own_state;
 
 /* Splitmix64. */
-static uint64_t next(void)
+static uint64_t next(uint64_t *from)
 {
-    uint64_t x = state += 0x9e3779b97f4a7c15u;
+    uint64_t x = *from += 0x9e3779b97f4a7c15u;
     x = (x ^ x >> 30) * 0xbf58476d1ce4e5b9u;
     x = (x ^ x >> 27) * 0x94d049bb133111ebu;
     return x ^ x >> 31;
@@ -17,16 +18,27 @@ static uint64_t next(void)
 void draw_anew(uint64_t number)
 {
     state = number;
+    own_state = ~number;
 }
 
 uint64_t drawn(uint64_t low, uint64_t high)
 {
-    return low + next() % (high - low + 1);
+    return low + next(&state) % (high - low + 1);
 }
 
 int once_in(uint64_t times)
 {
-    return next() % times == 0;
+    return next(&state) % times == 0;
+}
+
+static uint64_t own_drawn(uint64_t low, uint64_t high)
+{
+    return low + next(&own_state) % (high - low + 1);
+}
+
+static int own_once_in(uint64_t times)
+{
+    return next(&own_state) % times == 0;
 }
 
 /* ---- rows */
@@ -158,6 +170,50 @@ static void add_terms(struct book *book, size_t *used)
     }
 }
 
+/* The executors: four have permissions, the last of them with the largest number that there is. The fifth has none. */
+enum { PERMITTED = 4, OF_ACCOUNTS = 8 };
+
+static uint64_t executor_of(uint64_t which)
+{
+    return which == PERMITTED ? MOST_COUNT : which;
+}
+
+/* The first row of this kind and party from this place on, and of this n1 unless that is 0; or NULL. */
+static uint8_t *found(const struct book *book, size_t at, uint8_t kind, uint64_t party, uint64_t n1)
+{
+    size_t records = book->length / BOOK_RECORD_SIZE;
+    for (size_t n = 0; n < records; n++) {
+        uint8_t *row = book->bytes + (at + n) % records * BOOK_RECORD_SIZE;
+        if (row[BOOK_AT_KIND] == kind && book_get_u32(row + BOOK_AT_PARTY) == party &&
+            (n1 == 0 || book_get_u32(row + BOOK_AT_N1) == n1))
+            return row;
+    }
+    return NULL;
+}
+
+/* The permission of this account and executor goes; or it comes, if the account is there and a place is free. */
+static void turn_permission(const struct book *book, uint64_t account, uint64_t executor)
+{
+    size_t at = own_drawn(0, book->length / BOOK_RECORD_SIZE - 1);
+    uint8_t *row = found(book, at, BOOK_KIND_PERMISSION, account, executor);
+    if (row) {
+        memset(row, 0, BOOK_RECORD_SIZE);
+        return;
+    }
+    row = found(book, at, 0, 0, 0);
+    if (row && found(book, at, BOOK_KIND_ACCOUNT, account, 0)) {
+        row[BOOK_AT_KIND] = BOOK_KIND_PERMISSION;
+        book_put_u32(row + BOOK_AT_PARTY, (uint32_t)account);
+        book_put_u32(row + BOOK_AT_N1, (uint32_t)executor);
+    }
+}
+
+void change_permission(struct book *book)
+{
+    uint64_t account = own_drawn(1, book->accounts < OF_ACCOUNTS ? book->accounts : OF_ACCOUNTS);
+    turn_permission(book, account, executor_of(own_drawn(1, PERMITTED)));
+}
+
 void make_book(struct book *book, size_t records)
 {
     /* A large book is nearly full from the beginning. */
@@ -187,6 +243,10 @@ void make_book(struct book *book, size_t records)
             memset(book->bytes + from * BOOK_RECORD_SIZE, 0, BOOK_RECORD_SIZE);
         }
     }
+    for (uint64_t account = 1; account <= book->accounts && account <= OF_ACCOUNTS; account++)
+        for (uint64_t which = 1; which <= PERMITTED; which++)
+            if (own_once_in(2))
+                turn_permission(book, account, executor_of(which));
 }
 
 void change_band(struct book *book)
@@ -237,6 +297,10 @@ static void order_input(const struct book *book, uint8_t *input)
     book_put_u32(input + BOOK_AT_N1, some_shares());
     if (input[BOOK_AT_TYPE] > BOOK_TMS)
         book_put_u32(input + BOOK_AT_N2, some_price());
+    /* Most orders are the owner's, and now and then an executor's number is above the largest. */
+    if (own_once_in(4))
+        book_put_u32(input + BOOK_AT_N3,
+                     (uint32_t)(own_once_in(40) ? MOST_COUNT + 1u : executor_of(own_drawn(1, PERMITTED + 1))));
     book_put_u32(input + BOOK_AT_TIME, drawn(0, 4000000000));
 }
 

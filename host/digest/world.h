@@ -26,9 +26,10 @@ enum call { ORDER, RESULT, FEED, LOOKUP, CALLS };
 /* A sound book of so many records, with rows that no call adds, and now and then a number at the end of its range. */
 void make_book(struct book *book, size_t records);
 
-/* Changes a row that no call changes, so that the book is still sound: a band's rate is zero, or is no longer, or the
-   band goes. */
+/* Each changes a row that no call changes, so that the book is still sound: a band's rate is zero, or is no longer, or
+   the band goes; a permission goes, or comes. */
 void change_band(struct book *book);
+void change_permission(struct book *book);
 
 /* An input for a call on this book: some name what the book does not have. Answers its number of records. */
 size_t make_input(enum call call, const struct book *book, uint8_t *input);

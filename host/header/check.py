@@ -146,7 +146,7 @@ def check_key(book_check, kind, fields, row):
 
 
 def check_kinds(book_check, kinds):
-    want(sorted(kinds) == [*range(KIND_BROKER, KIND_CASH + 1), *INPUTS], f"the kinds {sorted(kinds)}")
+    want(sorted(kinds) == [*range(KIND_BROKER, KIND_PERMISSION + 1), *INPUTS], f"the kinds {sorted(kinds)}")
     for kind, fields in kinds.items():
         row = good_row(kind, fields)
         want(fits(book_check, row, ""), f"kind {kind}: a good row")

@@ -142,8 +142,19 @@ class Books(unittest.TestCase):
                      Row(KIND_HISTORY, id=7, status=SBMT)], library=LIBRARY)
         self.assertEqual(book.lookup(7, 7), [(trade, None)] * 2)
 
+    def test_executors(self):
+        book = Book([Row(KIND_BROKER, party=1), Row(KIND_CUSTOMER, party=1, type=1),
+                     Row(KIND_ACCOUNT, party=1, n1=1, n2=1), SECURITY, Row(KIND_PERMISSION, party=1, n1=5),
+                     Row(KIND_BAND, type=TMB, status=1, flags=1, n1=1, n2=10, n3=50),
+                     Row(KIND_CHARGE, type=TMB, status=1, n1=500)], free=4, library=LIBRARY)
+        order = {"type": TMB, "party": 1, "symbol": "ABC", "n1": 1}
+        with self.assertRaises(Refused) as caught:
+            book.order(**order, n3=6)
+        self.assertEqual(caught.exception.status, ORDER_NOT_PERMITTED)
+        self.assertEqual([book.order(**order, n3=executor).id for executor in (0, 5)], [1, 2])
+
     def test_texts(self):
-        self.assertEqual(len(STATUS_TEXT), 20)
+        self.assertEqual(len(STATUS_TEXT), 21)
         for status in STATUS_TEXT:
             self.assertTrue(Refused(status).text)
         self.assertEqual(Refused(1).text, "no status of this library")

@@ -12,6 +12,7 @@ BAD_BOOK = -101
 UNSOUND = -102
 BAD_INPUT = -103
 ORDER_NO_ACCOUNT = -711
+ORDER_NOT_PERMITTED = -721
 ORDER_NO_SECURITY = -712
 ORDER_NO_TAX = -731
 ORDER_NO_RATE = -732
@@ -67,6 +68,7 @@ KIND_SUMMARY = 13  # summary
 KIND_LOT_HISTORY = 14  # lot history
 KIND_SETTLEMENT = 15  # settlement
 KIND_CASH = 16  # cash
+KIND_PERMISSION = 17  # permission
 
 # The kinds of input records. An order, a result and a feed answer one record of the same kind.
 KIND_ORDER = 33  # order
@@ -99,6 +101,7 @@ STATUS_TEXT = {
     UNSOUND: 'the book is not sound',
     BAD_INPUT: 'an input field breaks its rule',
     ORDER_NO_ACCOUNT: 'order: no such account',
+    ORDER_NOT_PERMITTED: 'order: the named executor has no permission for the account',
     ORDER_NO_SECURITY: 'order: no such security',
     ORDER_NO_TAX: "order: gain and tax status 1 or 2, yet the customer's rates sum to 0",
     ORDER_NO_RATE: "order: the band's rate is 0",
