@@ -1,6 +1,7 @@
 // The group of a row, and its bucket in a directory of so many heads. Rows of one group share a chain: it leaves out
 // what the rates of a customer, the permissions of an account, the bands of a type, tier and exchange and the histories
-// of a trade differ in. A lot is grouped by its account and symbol, a request by its symbol. Which bucket it is matters for speed alone.
+// of a trade differ in. A lot is grouped by its account and symbol, a request by its symbol. Which bucket it is matters
+// for speed alone.
 ghost use mathlib.Core.Path.{_≡_};
 ghost use mathlib.Core.Bool.{_||_, false};
 ghost use Prim.Native.Nat.{_<_, _≤_};

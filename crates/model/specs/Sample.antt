@@ -8,8 +8,8 @@ use lib.ListN.{replicate}
 use Rattle.laws.specs.Search.{keep}
 use Rattle.record.specs.Codes.{completed, kindAccount, kindBand, kindBroker, kindCharge, kindCustomer}
 use Rattle.record.specs.Codes.{kindCustomerRate, kindFeed, kindLookup, kindLot, kindOrder, kindPermission, kindRequest}
-use Rattle.record.specs.Codes.{kindResult, kindSecurity, kindSettlement, kindSummary, kindTaxRate, kindTrade, pending, submitted}
-use Rattle.record.specs.Codes.{tlb, tmb, tms}
+use Rattle.record.specs.Codes.{kindResult, kindSecurity, kindSettlement, kindSummary, kindTaxRate, kindTrade, pending}
+use Rattle.record.specs.Codes.{submitted, tlb, tmb, tms}
 use Rattle.record.specs.Symbol.{sameSymbol, spelling, symbolNumber}
 use Rattle.record.specs.declared.row.Row.{Row}
 use Rattle.record.specs.declared.symbol.Symbol.{Symbol}

@@ -21,8 +21,8 @@ use Rattle.kinds.specs.declared.limits.Clause.the-variants.{Nothing, FromTo, Co
 use Rattle.kinds.specs.declared.limits.Rule.{Rule}
 use Rattle.rules.specs.Ranges.{_⋯_, _∈_, Range, any32, any64, brokerTrades, cashFlag, charged, commissionPart}
 use Rattle.rules.specs.Ranges.{commissionTotal, dueTime, exchange, fee, limited, moneyMost, number, numberMost}
-use Rattle.rules.specs.Ranges.{only, orderFlags, price, priceMost, ranges, shares, sharesMost, taxPart, taxStatus, tier}
-use Rattle.rules.specs.Ranges.{time, tradeFlags, tradeNumber, tradeStatus, tradeType, volume, kind, form}
+use Rattle.rules.specs.Ranges.{only, orderFlags, price, priceMost, ranges, shares, sharesMost, taxPart}
+use Rattle.rules.specs.Ranges.{taxStatus, tier, time, tradeFlags, tradeNumber, tradeStatus, tradeType, volume, kind, form}
 use Rattle.rules.specs.Ranges.{status, flags, party, id, symbol, n1, n2, n3, n4, m1, m2, when}
 use Rattle.rules.specs.Signed.{near}
 

@@ -11,8 +11,8 @@ use Rattle.record.specs.declared.row.Row.{Row}
 use Rattle.rules.specs.Beyond.{in-two}
 use Rattle.rules.specs.Rules.{accountShape, as-kind, bandShape, brokerShape, cashShape, chargeShape}
 use Rattle.rules.specs.Rules.{customerRateShape, customerShape, fits, freeShape, lotHistoryShape, lotShape, no-kind}
-use Rattle.rules.specs.Rules.{permissionShape, requestShape, rules, securityShape, settlementShape, summaryShape, taxRateShape}
-use Rattle.rules.specs.Rules.{tradeHistoryShape, tradeShape}
+use Rattle.rules.specs.Rules.{permissionShape, requestShape, rules, securityShape, settlementShape, summaryShape}
+use Rattle.rules.specs.Rules.{taxRateShape, tradeHistoryShape, tradeShape}
 use borrow.Author.Needs.{needs}
 use Rattle.fields.proofs.fits_beside.Statement.{statement}
 use Rattle.fields.proofs.fits_beside.Tie as tie
