@@ -79,39 +79,7 @@ unfolding order.order order.checks
 order-status rs i =
     let cs = order.checks rs i (order.view rs i) in
     decided-status cs rs _ refl
-    ∙ given-checks (orderLines rs i) cs (
-      refl,
-      refl,
-      (
-        refl,
-        refl,
-        (
-          refl,
-          refl,
-          (
-            refl,
-            refl,
-            (
-              refl,
-              refl,
-              (
-                refl,
-                refl,
-                (
-                  refl,
-                  refl,
-                  (
-                    refl,
-                    refl,
-                    (refl, refl, tt),
-                  ),
-                ),
-              ),
-            ),
-          ),
-        ),
-      ),
-    )
+    ∙ given-checks (orderLines rs i) cs refl
 
 -- ---- result
 abbrev resultTests : List Row → Row → List Bool
@@ -151,8 +119,7 @@ result-status rs i =
     let v = result.view rs i in
     let cs = result.checks rs i v (result.figures i v) in
     decided-status cs rs _ refl
-    ∙ given-checks (resultLines rs i) cs
-    (refl, refl, (refl, refl, (refl, refl, (refl, refl, (refl, refl, (refl, refl, (refl, refl, tt)))))))
+    ∙ given-checks (resultLines rs i) cs refl
 
 -- ---- feed
 abbrev feedTests : List Row → List Row → List Bool
@@ -174,7 +141,7 @@ feed-status : (rs es : List Row) → feed.feed rs es .status ≡ given (feedLine
 unfolding feed.feed feed.checks
 feed-status rs es =
     decided-status (feed.checks rs es) rs _ refl
-    ∙ given-checks (feedLines rs es) (feed.checks rs es) (refl, refl, (refl, refl, (refl, refl, tt)))
+    ∙ given-checks (feedLines rs es) (feed.checks rs es) refl
 
 -- ---- lookup
 abbrev lookupTests : List Row → List Row → List Bool
@@ -192,7 +159,7 @@ lookup-status : (rs is : List Row) → lookup.lookup rs is .status ≡ given (lo
 unfolding lookup.lookup lookup.checks
 lookup-status rs is =
     decided-status (lookup.checks rs is) rs _ refl
-    ∙ given-checks (lookupLines rs is) (lookup.checks rs is) (refl, refl, tt)
+    ∙ given-checks (lookupLines rs is) (lookup.checks rs is) refl
 
 -- ---- a call's own lines
 abbrev ownTests : Call → List Row → List ℕ → List Bool

@@ -1,16 +1,22 @@
 -- The one law of every table of statuses: where each line's test means its condition, the status of the first test
 -- that passes is the one that is due. A new refusal is one more line and one more test. Assumes nothing.
-use mathlib.Core.Path.{_≡_, refl, sym, _∙_}
-use mathlib.Core.Bool.{Bool, true, false, cond, false≢true, not}
+use mathlib.Core.Path.{_≡_, refl, sym, ap, _∙_}
+use mathlib.Core.Bool.{Bool, true, false, cond, false≢true, not, _&&_}
 use mathlib.Core.List.{List, [], _∷_}
 use mathlib.Core.Logic.{_↔_, inl, inr, ⊎-elim}
-use Rattle.laws.specs.Tests.{Means}
+use Prim.Native.Nat.{ℕ}
+use lib.Dec.{eqb}
+use mir.Syntax.{w32}
+use mir.Val.{ofZ, toZ}
+use borrow.Author.Tests.{eqb-true, not-true}
+use Rattle.laws.specs.Tests.{Means, and-left, and-right}
 use Rattle.laws.specs.Search.{run}
 use Rattle.model.specs.declared.Status.{Status}
 use Rattle.model.specs.declared.Status.the-variants.{Done}
 use Rattle.model.specs.Plan.{Check, verdict}
-use Rattle.model.specs.Status.{isDone}
+use Rattle.model.specs.Status.{isDone, number}
 use Rattle.facts.specs.Checks.{verdict-next}
+use Rattle.facts.specs.Status.{number-back, one-status}
 use Rattle.demands.specs.Demand2.{Due, Line}
 
 -- a test for each line, which means its condition where none of those before it holds
@@ -44,21 +50,36 @@ abbrev pub fails : List Check → List Bool
 fails [] = []
 fails (c ∷ cs) = not (c .passes) ∷ fails cs
 
--- line by line the same status, and none is success
-abbrev pub Same : List Line → List Check → Type 0
-Same [] [] = Unit {0}
-Same [] (c ∷ cs) = ⊥
-Same (l ∷ ls) [] = ⊥
-Same (l ∷ ls) (c ∷ cs) = (l .status ≡ c .else) × (isDone (c .else) ≡ false) × Same ls cs
+-- line by line the same status, and none is success: a test, which computes
+abbrev bits : Status → ℕ
+bits s = ofZ w32 (number s)
 
-pub given-checks : (ls : List Line) (cs : List Check) → Same ls cs → verdict cs ≡ given ls (fails cs)
+abbrev pub same : List Line → List Check → Bool
+same [] [] = true
+same [] (c ∷ cs) = false
+same (l ∷ ls) [] = false
+same (l ∷ ls) (c ∷ cs) = eqb (bits (l .status)) (bits (c .else)) && not (isDone (c .else)) && same ls cs
+
+one-status-of : (s t : Status) → eqb (bits s) (bits t) ≡ true → s ≡ t
+one-status-of s t e =
+    one-status s t
+    (sym (number-back (number s) s refl) ∙ ap (toZ w32) (eqb-true (bits s) (bits t) e)
+    ∙ number-back (number t) t refl)
+
+pub given-checks : (ls : List Line) (cs : List Check) → same ls cs ≡ true → verdict cs ≡ given ls (fails cs)
 unfolding verdict run
 given-checks [] [] h = refl
-given-checks [] (c ∷ cs) h = absurd h
-given-checks (l ∷ ls) [] h = absurd h
-given-checks (l ∷ ls) (c ∷ cs) h = verdict-next c cs (h .1) ∙ go (c .passes) (given-checks ls cs (h .2))
+given-checks [] (c ∷ cs) h = absurd (false≢true h)
+given-checks (l ∷ ls) [] h = absurd (false≢true h)
+given-checks (l ∷ ls) (c ∷ cs) h =
+    let e = eqb (bits (l .status)) (bits (c .else)) in
+    let d = not (isDone (c .else)) in
+    let two = and-left (e && d) (same ls cs) h in
+    verdict-next c cs (not-true (isDone (c .else)) (and-right e d two))
+    ∙ go (c .passes) (one-status-of (l .status) (c .else) (and-left e d two))
+    (given-checks ls cs (and-right (e && d) (same ls cs) h))
   where
-    go : (t : Bool) → verdict cs ≡ given ls (fails cs)
+    go : (t : Bool) → l .status ≡ c .else → verdict cs ≡ given ls (fails cs)
         → cond t (verdict cs) (c .else) ≡ cond (not t) (l .status) (given ls (fails cs))
-    go true e = e
-    go false e = sym (h .0)
+    go true q e = e
+    go false q e = sym q
