@@ -53,7 +53,8 @@ own-rule k rs r e = ap (λ (x : ℕ). getD ownRules x noRule rs r) e
 -- a row of any other kind has no rule of its own
 pub own-none : (rs : List Row) (r : Row) → (r .kind ≡ kindCustomer → ⊥) → (r .kind ≡ kindCustomerRate → ⊥)
     → (r .kind ≡ kindAccount → ⊥) → (r .kind ≡ kindBand → ⊥) → (r .kind ≡ kindLotHistory → ⊥)
-    → (r .kind ≡ kindPermission → ⊥) → (r .kind ≡ kindTrade → ⊥) → (r .kind ≡ kindSummary → ⊥) → true ≡ ownWell rs r
+    → (r .kind ≡ kindPermission → ⊥) → (r .kind ≡ kindTrade → ⊥) → (r .kind ≡ kindSummary → ⊥)
+    → true ≡ ownWell rs r
 unfolding ownWell
 own-none rs r customer rate account band done permission trade summary = go (r .kind) refl
   where

@@ -71,8 +71,8 @@ summary shares = new (kind ≔ kindSummary ∷ party ≔ 1 ∷ symbol ≔ symbol
 abbrev awaiting : ℕ → ℕ → ℕ → List Row
 awaiting type flag shares =
     new (
-    kind ≔ kindTrade ∷ form ≔ type ∷ status ≔ submitted ∷ flags ≔ flag ∷ party ≔ 1 ∷ id ≔ 12 ∷ symbol ≔ symbolNumber abc
-    ∷ n1 ≔ shares
+    kind ≔ kindTrade ∷ form ≔ type ∷ status ≔ submitted ∷ flags ≔ flag ∷ party ≔ 1 ∷ id ≔ 12
+    ∷ symbol ≔ symbolNumber abc ∷ n1 ≔ shares
     ∷ n2 ≔ 3_000 ∷ n4 ≔ 500 ∷ when ≔ 300 ∷ [])
     ∷ historyRow submitted 12 300
     ∷ []
@@ -103,7 +103,9 @@ requested =
     ∷ when ≔ 50
     ∷ [])
     ∷ historyRow pending 20 50
-    ∷ new (kind ≔ kindRequest ∷ form ≔ tlb ∷ party ≔ 1 ∷ id ≔ 20 ∷ symbol ≔ symbolNumber abc ∷ n1 ≔ 5 ∷ n2 ≔ 500 ∷ [])
+    ∷ new (
+    kind ≔ kindRequest ∷ form ≔ tlb ∷ party ≔ 1 ∷ id ≔ 20 ∷ symbol ≔ symbolNumber abc ∷ n1 ≔ 5
+    ∷ n2 ≔ 500 ∷ [])
     ∷ []
 
 abbrev pub waiting : List Row

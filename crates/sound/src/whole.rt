@@ -25,7 +25,7 @@ use model::Status;
 use record::codes::Kind;
 use record::row::Grid;
 
-// The kinds behind the trades that do not hang on one: lot histories and permissions.
+// The kinds behind the trades that do not hang on one, but for the summaries: lot histories and permissions.
 fn beside(book: &[u8], dir: &[u16], links: &[u16]) -> bool
     requires { ⌜ Listed (now book) (now dir) ⌝ }
     requires { ⌜ ByKind (now book) (now links) 0 ⌝ }
