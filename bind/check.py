@@ -36,8 +36,7 @@ def by_swig(folder):
                 raise SystemExit(f"{name} took what is no buffer, or can not be written")
             except TypeError:
                 pass
-        title = {"feed": "Market-Feed", "batch": "A batch"}.get(name, "Trade-" + name.capitalize())
-        assert title in call.__doc__, call.__doc__
+        assert name == "feed" or "Trade-" + name.capitalize() in call.__doc__, call.__doc__
     return Calls(lambda name: getattr(book, name))
 
 

@@ -11,8 +11,7 @@
  * - A NULL pointer with length 0 is an empty area. Nothing is read or written outside the areas.
  * - It returns its status: the first of its statuses, in the order of checking, whose condition holds, else 0.
  * - BOOK_BAD_LENGTH writes nothing at all. Any other refusal leaves the book as it was and fills the answer with
- *   zeros, but for the status, signed, in bytes 60 to 63 of the whole area. On success these four bytes are zero,
- *   but for a batch: there each item has its own 64 bytes of the answer, and its own status in bytes 60 to 63 of them.
+ *   zeros, but for the status, signed, in bytes 60 to 63 of the whole area. On success these four bytes are zero.
  *   An area that is refused for its length is not read, whatever the length.
  * - What was in the answer area before does not matter.
  * - No state is kept between calls, nothing is allocated, and no call blocks. Threads may call at once if no area that
@@ -25,8 +24,7 @@
  * Each kind with the fields that it uses; all other fields are zero. A star marks the key. Fields are unsigned unless
  * they are called signed. Money is in cents, times are seconds from 2000-01-01. A symbol is 1 to 7 of A-Z, 0-9, "."
  * and "-", then zeros; its last byte is always zero. Trade types are listed at BOOK_TMB, trade statuses at BOOK_PNDG.
- * No call adds a row of kinds 1 to 8 or 17: the caller does. Kinds 33 to 36 are what the calls are asked with; a batch
- * is asked with kinds 33 and 34.
+ * No call adds a row of kinds 1 to 8 or 17: the caller does. Kinds 33 to 36 are what the calls are asked with.
  * @verbatim
  *  1 broker
  *    * party   1..999,999,999                 its number
@@ -192,7 +190,7 @@ extern "C" {
 #define BOOK_VERSION_PATCH 0 /**< rises with any other change */
 /** @} */
 
-/** @name What a call returns, or an item of a batch, in the order of checking. The comment is the condition. */
+/** @name What a call returns, in the order of checking. The comment is the condition. */
 /** @{ */
 #define BOOK_DONE 0                    /**< no refusal */
 #define BOOK_BAD_LENGTH -100           /**< input or answer area has the wrong length */
@@ -223,7 +221,6 @@ extern "C" {
 #define BOOK_RECORD_SIZE 64    /**< bytes of a record */
 #define BOOK_MOST_RECORDS 4096 /**< of a book */
 #define BOOK_MOST_INPUTS 20    /**< records of one feed or lookup */
-#define BOOK_MOST_ITEMS 256    /**< records of one batch */
 #define BOOK_MOST_STACK 262144 /**< bytes of stack that a call takes, with all that it calls */
 /** @} */
 
@@ -454,34 +451,6 @@ int32_t book_feed(uint8_t *book, size_t book_len, const uint8_t *input, size_t i
  */
 int32_t book_lookup(const uint8_t *book, size_t book_len, const uint8_t *input, size_t input_len, uint8_t *answer,
                     size_t answer_len);
-
-/**
- * A batch: orders and results in turn, in one call. The book is checked once.
- *
- * @param book       read and written
- * @param book_len   64 times the number of records, 1 to 4,096
- * @param input      read: 1 to 256 records, its items, each of kind 33 or 34
- * @param input_len  64 times their number
- * @param answer     written: one record for each item, in the same order
- * @param answer_len input_len
- * @return the status of the whole batch: 0 even where items were refused
- *
- * Statuses, in the order of checking: BOOK_BAD_LENGTH, BOOK_BAD_BOOK, BOOK_UNSOUND, BOOK_DONE. The first three refuse
- * the whole batch, as they do for every call: no item is looked at.
- *
- * On BOOK_DONE book and answers are as if book_order had been called with each item of kind 33 and book_result with
- * each of kind 34, one after the other. So an item meets the book that the items before it left: a result may carry
- * out an order of the same batch, by the number that the order's answer has, and added rows may take places that
- * earlier items freed. The book is sound again.
- *
- * The caller must look at the status of each item: it is signed, in bytes 60 to 63 of the item's own 64 bytes of the
- * answer, and book_item_status of book_row.h reads it. An item has one of the statuses of book_order or book_result
- * from BOOK_BAD_INPUT on. With BOOK_DONE it was accepted, and its answer is that of the call. With any other it was
- * refused: it changed no byte of the book, its answer is zeros but for the status, and the items behind it were run
- * all the same. An item of another kind than 33 or 34 is refused with BOOK_BAD_INPUT, whatever its other bytes are.
- */
-int32_t book_batch(uint8_t *book, size_t book_len, const uint8_t *input, size_t input_len, uint8_t *answer,
-                   size_t answer_len);
 
 /* Here ends what cffi reads. */
 

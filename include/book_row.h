@@ -150,12 +150,6 @@ static inline int32_t book_ask(int32_t (*call)(uint8_t *, size_t, const uint8_t 
     return status;
 }
 
-/** The status of an item of a batch, by the answer area of the batch. Items are counted from 0. */
-static inline int32_t book_item_status(const uint8_t *answer, size_t item)
-{
-    return book_get_i32(answer + item * BOOK_RECORD_SIZE + BOOK_AT_N5);
-}
-
 /** The tax in the answer of an order or a result: it is where a row has its symbol. */
 static inline int64_t book_row_tax(const struct book_row *answer)
 {
@@ -164,7 +158,7 @@ static inline int64_t book_row_tax(const struct book_row *answer)
     return book_get_i64(bytes);
 }
 
-/** What the status of a call or of an item means, or a text that says that it is none. */
+/** What a call's status means, or a text that says that it is none. */
 static inline const char *book_status_text(int32_t status)
 {
     switch (status) {
@@ -194,7 +188,7 @@ static inline const char *book_status_text(int32_t status)
     }
 }
 
-/** The name of the status of a call or of an item in book.h, as "BOOK_DONE", or "". */
+/** The name of a call's status in book.h, as "BOOK_DONE", or "". */
 static inline const char *book_status_name(int32_t status)
 {
 #define BOOK_NAME_(name) case name: return #name

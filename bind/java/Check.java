@@ -13,8 +13,6 @@ import java.util.Arrays;
  */
 public final class Check implements bookConstants {
     private static final DataInputStream IN = new DataInputStream(new BufferedInputStream(System.in, 1 << 20));
-    /** Stands for a batch, whose records are of several kinds, where the others have the kind of their records. */
-    private static final int BATCH = 255;
     private static int passed;
     private static int failed;
 
@@ -34,7 +32,6 @@ public final class Check implements bookConstants {
             case BOOK_KIND_RESULT: return book.book_result(rows, input, answer);
             case BOOK_KIND_FEED: return book.book_feed(rows, input, answer);
             case BOOK_KIND_LOOKUP: return book.book_lookup(rows, input, answer);
-            case BATCH: return book.book_batch(rows, input, answer);
             default: throw new IllegalArgumentException("no call has input records of kind " + kind);
         }
     }
@@ -69,14 +66,13 @@ public final class Check implements bookConstants {
     public static void main(String[] words) throws IOException {
         System.loadLibrary("bookjava");
         int count = Integer.parseInt(words[0]);
-        int[] seen = new int[BATCH + 1];
+        int[] seen = new int[BOOK_KIND_LOOKUP + 1];
         for (int kind = next(); kind >= 0; kind = next()) {
             seen[kind]++;
         }
         for (int kind = BOOK_KIND_ORDER; kind <= BOOK_KIND_LOOKUP; kind++) {
             want(seen[kind] == count, seen[kind] + " cases of kind " + kind);
         }
-        want(seen[BATCH] == count, seen[BATCH] + " batches");
         try {
             book.book_order(new byte[BOOK_RECORD_SIZE], null, new byte[BOOK_RECORD_SIZE]);
             want(false, "an area that is null was taken");

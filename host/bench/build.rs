@@ -1,6 +1,6 @@
-//! Says what each program is linked with, so that one can be built without what the others need: `soundness` and
-//! `calls` with libbook.a and `inner` with libinner.a from BOOK_DIR, `sqlite` and `batch` with libbook.a and with
-//! SQLite. If the folder is not named, it is the one where `tools/lib` writes for this processor.
+//! Says what each program is linked with, so that one can be built without what the others need: `soundness` and `calls` with
+//! libbook.a and `inner` with libinner.a from BOOK_DIR, `sqlite` with libbook.a and with SQLite. If the folder is not named, it
+//! is the one where `tools/lib` writes for this processor.
 
 use std::path::PathBuf;
 
@@ -26,8 +26,6 @@ fn main() {
     println!("cargo:rustc-link-arg-bin=soundness={book}");
     println!("cargo:rustc-link-arg-bin=calls={book}");
     println!("cargo:rustc-link-arg-bin=inner={inner}");
-    for program in ["sqlite", "batch"] {
-        println!("cargo:rustc-link-arg-bin={program}={book}");
-        println!("cargo:rustc-link-arg-bin={program}=-lsqlite3");
-    }
+    println!("cargo:rustc-link-arg-bin=sqlite={book}");
+    println!("cargo:rustc-link-arg-bin=sqlite=-lsqlite3");
 }

@@ -78,7 +78,6 @@ static void check_call(const struct call *call, struct part book, struct part in
         expect_status(call, "an input of too many bytes", book, longest, answer, BOOK_BAD_LENGTH);
         expect_status(call, "an answer area of too many bytes", book, input, longest, BOOK_BAD_LENGTH);
         expect_status(call, "an input of too many bytes, and twice that", book, longest, doubled, BOOK_BAD_LENGTH);
-        expect_status(call, "input and answer area of too many bytes", book, longest, longest, BOOK_BAD_LENGTH);
         expect_status(call, "all areas of too many bytes", longest, longest, longest, BOOK_BAD_LENGTH);
     }
 }

@@ -3,12 +3,10 @@
 #include "check.h"
 
 #include "area.h"
-#include "book_row.h"
 
 #include <signal.h>
 #include <stdarg.h>
 #include <stdio.h>
-#include <stdlib.h>
 #include <string.h>
 #include <unistd.h>
 
@@ -20,20 +18,27 @@ static int32_t lookup(uint8_t *book, size_t book_len, const uint8_t *input, size
     return book_lookup(book, book_len, input, input_len, answer, answer_len);
 }
 
-#define OF_A_BATCH BOOK_DONE, BOOK_BAD_LENGTH, BOOK_BAD_BOOK, BOOK_UNSOUND
-#define SHARED OF_A_BATCH, BOOK_BAD_INPUT
-#define OF_ORDERS \
-    BOOK_ORDER_NO_ACCOUNT, BOOK_ORDER_NOT_PERMITTED, BOOK_ORDER_NO_SECURITY, BOOK_ORDER_NO_TAX, BOOK_ORDER_NO_RATE, \
-        BOOK_ORDER_NO_BAND, BOOK_ORDER_NO_CHARGE
-#define OF_RESULTS \
-    BOOK_RESULT_NO_TRADE, BOOK_RESULT_NOT_SUBMITTED, BOOK_RESULT_NO_TAX, BOOK_RESULT_NO_RATE, BOOK_RESULT_NO_BAND
+#define SHARED BOOK_DONE, BOOK_BAD_LENGTH, BOOK_BAD_BOOK, BOOK_UNSOUND, BOOK_BAD_INPUT
 static const int32_t of_lookup[] = {SHARED, BOOK_LOOKUP_NO_TRADE};
 static const int32_t of_feed[] = {SHARED, BOOK_FEED_NO_SECURITY, BOOK_OVER_LIMIT, BOOK_NO_ROOM};
-static const int32_t of_order[] = {SHARED, OF_ORDERS, BOOK_OVER_LIMIT, BOOK_NO_ROOM};
-static const int32_t of_result[] = {SHARED, OF_RESULTS, BOOK_OVER_LIMIT, BOOK_NO_ROOM};
-static const int32_t of_batch[] = {OF_A_BATCH};
-const int32_t item_statuses[] = {BOOK_DONE, BOOK_BAD_INPUT, OF_ORDERS, OF_RESULTS, BOOK_OVER_LIMIT, BOOK_NO_ROOM};
-const size_t item_status_count = sizeof item_statuses / sizeof item_statuses[0];
+static const int32_t of_order[] = {SHARED,
+                                   BOOK_ORDER_NO_ACCOUNT,
+                                   BOOK_ORDER_NOT_PERMITTED,
+                                   BOOK_ORDER_NO_SECURITY,
+                                   BOOK_ORDER_NO_TAX,
+                                   BOOK_ORDER_NO_RATE,
+                                   BOOK_ORDER_NO_BAND,
+                                   BOOK_ORDER_NO_CHARGE,
+                                   BOOK_OVER_LIMIT,
+                                   BOOK_NO_ROOM};
+static const int32_t of_result[] = {SHARED,
+                                    BOOK_RESULT_NO_TRADE,
+                                    BOOK_RESULT_NOT_SUBMITTED,
+                                    BOOK_RESULT_NO_TAX,
+                                    BOOK_RESULT_NO_RATE,
+                                    BOOK_RESULT_NO_BAND,
+                                    BOOK_OVER_LIMIT,
+                                    BOOK_NO_ROOM};
 
 #define ALL(list) list, sizeof list / sizeof list[0]
 const struct call calls[] = {
@@ -41,7 +46,6 @@ const struct call calls[] = {
     {"feed", BOOK_KIND_FEED, book_feed, 0, ALL(of_feed)},
     {"order", BOOK_KIND_ORDER, book_order, 0, ALL(of_order)},
     {"result", BOOK_KIND_RESULT, book_result, 0, ALL(of_result)},
-    {"batch", BATCH, book_batch, 0, ALL(of_batch)},
 };
 const size_t call_count = sizeof calls / sizeof calls[0];
 
@@ -147,66 +151,6 @@ static int as_expected(const char *name, const struct sample *sample, int32_t st
            same(name, names[2], &areas[2], sample->answer_after);
 }
 
-/* Calls the library with this item alone, and gives the status. An item that is for no such call is refused. */
-static int32_t single(uint8_t *book, size_t book_length, const uint8_t *item, uint8_t *answer)
-{
-    const uint8_t kind = item[BOOK_AT_KIND];
-    if (kind == BOOK_KIND_ORDER)
-        return book_order(book, book_length, item, BOOK_RECORD_SIZE, answer, BOOK_RECORD_SIZE);
-    if (kind == BOOK_KIND_RESULT)
-        return book_result(book, book_length, item, BOOK_RECORD_SIZE, answer, BOOK_RECORD_SIZE);
-    memset(answer, 0, BOOK_RECORD_SIZE);
-    book_put_u32(answer + BOOK_AT_N5, (uint32_t)BOOK_BAD_INPUT);
-    return BOOK_BAD_INPUT;
-}
-
-/* Holds what an accepted batch left to what the calls of its items leave, made one after the other on this copy of the
-   book. */
-static int as_single_calls(const char *name, const struct sample *sample, uint8_t *book, const struct area areas[3])
-{
-    uint8_t answer[BOOK_RECORD_SIZE];
-    size_t at, n;
-    for (at = 0; at < sample->input_length; at += BOOK_RECORD_SIZE) {
-        const int32_t status = single(book, sample->book_length, sample->input + at, answer);
-        const int32_t found = book_item_status(areas[2].bytes, at / BOOK_RECORD_SIZE);
-        if (found != status) {
-            fault(name, "item %zu: status %ld, by itself %ld", at / BOOK_RECORD_SIZE, (long)found, (long)status);
-            return 0;
-        }
-        for (n = 0; n < BOOK_RECORD_SIZE; n++)
-            if (areas[2].bytes[at + n] != answer[n]) {
-                fault(name, "item %zu: byte %zu of its answer is another by itself", at / BOOK_RECORD_SIZE, n);
-                return 0;
-            }
-    }
-    for (n = 0; n < sample->book_length; n++)
-        if (areas[0].bytes[n] != book[n]) {
-            fault(name, "place %zu of the book is another by single calls", n / BOOK_RECORD_SIZE);
-            return 0;
-        }
-    return 1;
-}
-
-/* The same where the call is an accepted batch; nothing else is looked at. */
-static int as_in_turn(const char *name, const struct sample *sample, int32_t status, const struct area areas[3])
-{
-    uint8_t *book;
-    int good;
-    if (sample->call->kind != BATCH || status != BOOK_DONE)
-        return 1;
-    book = malloc(sample->book_length);
-    if (book == NULL) {
-        perror("malloc");
-        exit(2);
-    }
-    memcpy(book, sample->book, sample->book_length);
-    begin_call(name);
-    good = as_single_calls(name, sample, book, areas);
-    begin_call("between the calls");
-    free(book);
-    return good;
-}
-
 int check(const struct sample *sample, uint64_t seed, const char *name)
 {
     struct dice dice = {seed};
@@ -220,7 +164,7 @@ int check(const struct sample *sample, uint64_t seed, const char *name)
     begin_call(name);
     status = sample->call->run(book->bytes, book->length, input->bytes, input->length, answer->bytes, answer->length);
     begin_call("between the calls");
-    good = as_expected(name, sample, status, areas) && as_in_turn(name, sample, status, areas);
+    good = as_expected(name, sample, status, areas);
     if (good)
         passed++;
     for (n = 0; n < 3; n++)

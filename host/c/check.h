@@ -4,12 +4,9 @@
 
 #include "book.h"
 
-/* Stands for a batch, whose input records are of several kinds, where a call is told by the kind of its records. */
-enum { BATCH = 255 };
-
 struct call {
     const char *name;
-    uint8_t kind; /* of its input records, or BATCH */
+    uint8_t kind; /* of its input records */
     int32_t (*run)(uint8_t *, size_t, const uint8_t *, size_t, uint8_t *, size_t);
     int only_reads; /* the book */
     const int32_t *statuses; /* all that it can give */
@@ -18,10 +15,6 @@ struct call {
 
 extern const struct call calls[];
 extern const size_t call_count;
-
-/* All statuses that an item of a batch can have. */
-extern const int32_t item_statuses[];
-extern const size_t item_status_count;
 
 /* The call whose input records are of this kind, or NULL. */
 const struct call *call_of(uint32_t kind);
@@ -38,9 +31,8 @@ struct sample {
 /* How many samples were as expected, and how many were not. */
 extern unsigned long passed, failed;
 
-/* Has the sample run, on areas placed by the seed, and compares the status and every byte. What a batch leaves is
-   compared with what the single calls of its items leave, too. Says under this name what is wrong, counts, and gives
-   whether all was right. */
+/* Has the sample run, on areas placed by the seed, and compares the status and every byte. Says under this name what
+   is wrong, counts, and gives whether all was right. */
 int check(const struct sample *sample, uint64_t seed, const char *name);
 
 /* Counts one failure, and says what it is unless many have been said. */

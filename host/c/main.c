@@ -1,8 +1,7 @@
 /*
- * calls SEED [COUNT BATCHES] <CASES: holds the library to the samples that are written out here, and to the cases that
- * the program `cases` of second/ writes for this seed. With numbers it wants BATCHES cases of the batch and COUNT of
- * every other call; each status that a call can give; and each that an item of a batch can have. Its last line is 'N
- * passed, M failed'.
+ * calls SEED [COUNT] <CASES: holds the library to the samples that are written out here, and to the cases that the
+ * program `cases` of second/ writes for this seed. With COUNT it wants so many of every call, and each status that a
+ * call can give. Its last line is 'N passed, M failed'.
  *
  * calls sentences COUNT <CASES: holds the library to the sentences of the rules, broken and kept, that the program
  * `sentences` of second/ writes, and wants COUNT cases in all. `sentences list` says what each number is.
@@ -17,7 +16,7 @@
 #include <stdlib.h>
 #include <string.h>
 
-enum { MOST_CALLS = 5, MOST_STATUSES = 16, MOST_BYTES = 1 << 24, NAME_LENGTH = 120 };
+enum { MOST_CALLS = 4, MOST_STATUSES = 16, MOST_BYTES = 1 << 24, NAME_LENGTH = 120 };
 
 /* In place of a seed, for sentences. */
 enum { NO_SEED = -1 };
@@ -25,8 +24,8 @@ enum { NO_SEED = -1 };
 /* The numbers that a case of the stream begins with. */
 enum { KIND, NUMBER, BOOK, INPUT, ANSWER, STATUS, NUMBERS };
 
-/* How often each status of a call was expected of a case, and each status of an item of a batch. */
-static unsigned long counts[MOST_CALLS][MOST_STATUSES], item_counts[MOST_STATUSES];
+/* How often each status of a call was expected of a case. */
+static unsigned long counts[MOST_CALLS][MOST_STATUSES];
 
 /* Reads the numbers of the next case. Gives 0 at the end of the stream, or where it is broken, which is a failure. */
 static int next_case(uint32_t numbers[NUMBERS])
@@ -44,28 +43,15 @@ static int next_case(uint32_t numbers[NUMBERS])
     return 0;
 }
 
-/* Counts a status where it is listed. */
-static void count(const char *name, const int32_t *statuses, size_t length, unsigned long *counted, int32_t status)
+static void count(const struct call *call, int32_t status)
 {
     size_t n = 0;
-    while (n < length && statuses[n] != status)
+    while (n < call->status_count && call->statuses[n] != status)
         n++;
-    if (n < length)
-        counted[n]++;
+    if (n < call->status_count)
+        counts[call - calls][n]++;
     else
-        fault("the cases", "status %" PRId32 " is expected of a %s", status, name);
-}
-
-static void count_statuses(const struct sample *sample)
-{
-    const struct call *call = sample->call;
-    size_t item, items = sample->answer_length / BOOK_RECORD_SIZE;
-    count(call->name, call->statuses, call->status_count, counts[call - calls], sample->status);
-    if (call->kind != BATCH || sample->status != BOOK_DONE)
-        return;
-    for (item = 0; item < items; item++)
-        count("item of a batch", item_statuses, item_status_count, item_counts,
-              book_item_status(sample->answer_after, item));
+        fault("the cases", "status %" PRId32 " is expected of a %s", status, call->name);
 }
 
 /* Where the case's areas are placed depends on nothing but the seed and the case, so that it can be run alone. A
@@ -88,7 +74,7 @@ static void check_case(const uint32_t numbers[NUMBERS], const uint8_t *bytes, in
         snprintf(name, sizeof name, "sentence %" PRIu32 ", %s", numbers[NUMBER], sample.call->name);
     else
         snprintf(name, sizeof name, "seed %" PRId64 ", %s case %" PRIu32, seed, sample.call->name, numbers[NUMBER]);
-    count_statuses(&sample);
+    count(sample.call, sample.status);
     check(&sample, ((uint64_t)seed << 40) ^ ((uint64_t)numbers[KIND] << 32) ^ numbers[NUMBER], name);
 }
 
@@ -108,44 +94,31 @@ static void check_stream(int64_t seed)
     }
 }
 
-/* Prints how often each of these statuses was reached, and gives how often in all. If each is wanted, one that never
-   was is a failure. */
-static unsigned long report_counts(const char *name, const int32_t *statuses, size_t length,
-                                   const unsigned long *counted, int each)
-{
-    unsigned long all = 0;
-    size_t n;
-    printf("%s:", name);
-    for (n = 0; n < length; n++) {
-        printf("%s %lu of %" PRId32, n == 0 ? "" : ",", counted[n], statuses[n]);
-        all += counted[n];
-    }
-    printf("\n");
-    for (n = 0; n < length && each; n++)
-        if (counted[n] == 0)
-            fault(name, "no case has status %" PRId32, statuses[n]);
-    return all;
-}
-
 /* Prints how often each status was reached. If a number of cases is asked for, it wants so many, and each status. */
-static void report(unsigned long asked, unsigned long batches)
+static void report(unsigned long asked)
 {
-    size_t n;
-    for (n = 0; n < call_count; n++) {
-        const struct call *call = &calls[n];
-        const unsigned long wanted = call->kind == BATCH ? batches : asked;
-        const unsigned long all = report_counts(call->name, call->statuses, call->status_count, counts[n], wanted > 0);
-        if (wanted > 0 && all != wanted)
-            fault(call->name, "%lu cases instead of %lu", all, wanted);
+    size_t call, n;
+    for (call = 0; call < call_count; call++) {
+        unsigned long all = 0;
+        printf("%s:", calls[call].name);
+        for (n = 0; n < calls[call].status_count; n++) {
+            printf("%s %lu of %" PRId32, n == 0 ? "" : ",", counts[call][n], calls[call].statuses[n]);
+            all += counts[call][n];
+        }
+        printf("\n");
+        if (asked > 0 && all != asked)
+            fault(calls[call].name, "%lu cases instead of %lu", all, asked);
+        for (n = 0; n < calls[call].status_count && asked > 0; n++)
+            if (counts[call][n] == 0)
+                fault(calls[call].name, "no case has status %" PRId32, calls[call].statuses[n]);
     }
-    report_counts("items of batches", item_statuses, item_status_count, item_counts, batches > 0);
 }
 
 /* Runs the sentences of the stream, which must have so many cases. */
 static int run_sentences(int64_t asked)
 {
     check_stream(NO_SEED);
-    report(0, 0);
+    report(0);
     if (passed + failed != (unsigned long)asked)
         fault("the sentences", "%lu cases instead of %" PRId64, passed + failed, asked);
     printf("%lu passed, %lu failed\n", passed, failed);
@@ -164,10 +137,9 @@ int main(int words, char **word)
 {
     int sentences = words == 3 && strcmp(word[1], "sentences") == 0;
     int64_t seed = words >= 2 ? number(word[1]) : -1;
-    int64_t asked = words >= 3 ? number(word[2]) : 0;
-    int64_t batches = words == 4 ? number(word[3]) : 0;
-    if (words > 4 || (words == 3 && !sentences) || (seed < 0 && !sentences) || asked < 0 || batches < 0) {
-        fprintf(stderr, "usage: calls SEED [COUNT BATCHES] <CASES\n       calls sentences COUNT <CASES\n");
+    int64_t asked = words == 3 ? number(word[2]) : 0;
+    if (words > 3 || (seed < 0 && !sentences) || asked < 0) {
+        fprintf(stderr, "usage: calls SEED [COUNT] <CASES\n       calls sentences COUNT <CASES\n");
         return 2;
     }
     setvbuf(stdout, NULL, _IOLBF, 0);
@@ -177,7 +149,7 @@ int main(int words, char **word)
     check_written();
     printf("%lu runs of samples that are written out here\n", passed + failed);
     check_stream(seed);
-    report((unsigned long)asked, (unsigned long)batches);
+    report((unsigned long)asked);
     printf("%lu passed, %lu failed\n", passed, failed);
     return failed > 0;
 }

@@ -130,23 +130,9 @@ static void check_calls(void)
     want(book_read_row(bytes + BOOK_RECORD_SIZE).n1 == 210, "the book after a call with a row");
 }
 
-/* An order of no account, and a result of no trade. */
-static void check_items(void)
-{
-    static const struct book_row rows[] = {
-        {.kind = BOOK_KIND_ORDER, .type = BOOK_TMB, .party = 1, .symbol = "ABC", .n1 = 1},
-        {.kind = BOOK_KIND_RESULT, .id = 1, .n1 = 1}};
-    uint8_t bytes[BOOK_RECORD_SIZE] = {0}, input[2 * BOOK_RECORD_SIZE], answer[2 * BOOK_RECORD_SIZE];
-    want(book_write_rows(input, sizeof input, rows, 2), "items that fit");
-    want(book_batch(bytes, sizeof bytes, input, sizeof input, answer, sizeof answer) == BOOK_DONE, "a batch of rows");
-    want(book_item_status(answer, 0) == BOOK_ORDER_NO_ACCOUNT, "the status of the first item");
-    want(book_item_status(answer, 1) == BOOK_RESULT_NO_TRADE, "the status of the second item");
-}
-
 void check_rows(void)
 {
     check_calls();
-    check_items();
     check_round_trips();
     check_fields();
     check_numbers();

@@ -69,7 +69,7 @@ uint8_t *add_permission(uint32_t account, uint32_t executor)
 /* Has the call run several times, so that its areas lie differently. */
 static void hold(const char *name, uint8_t kind, size_t answer_length, int32_t status)
 {
-    static uint8_t answer[(BOOK_MOST_ITEMS + 2) * RECORD];
+    static uint8_t answer[2 * BOOK_MOST_INPUTS * RECORD + 1];
     struct sample sample = {call_of(kind), book.bytes, input.bytes, answer, 0, 0, 0, 0, NULL, NULL};
     uint64_t round = 0;
     size_t n;

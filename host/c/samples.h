@@ -42,12 +42,11 @@ void refuses_lengths(uint8_t kind, void (*begin_good)(void), size_t most_inputs,
    and not the next one, and a good input of one record, which has so many answers. */
 void refuses_permissions(uint8_t kind, void (*begin_good)(void), uint32_t account, size_t answers);
 
-/* The samples of orders, of orders by executors, of results and of batches; areas of no bytes and of more than there
-   are; and what book_row.h offers. */
+/* The samples of orders, of orders by executors and of results; areas of no bytes and of more than there are; and what
+   book_row.h offers. */
 void check_orders(void);
 void check_executors(void);
 void check_results(void);
-void check_batches(void);
 void check_areas(void);
 void check_rows(void);
 

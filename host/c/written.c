@@ -323,7 +323,6 @@ void check_written(void)
     check_orders();
     check_executors();
     check_results();
-    check_batches();
     check_areas();
     check_rows();
 }

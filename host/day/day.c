@@ -107,34 +107,20 @@ static struct reply run(struct book *book, const char *name, book_call *call, co
     return reply;
 }
 
-static void say_ordered(const struct reply *reply)
+static struct reply order(struct book *book, const struct book_row *asked)
 {
-    const struct book_row *answer = &reply->answer;
-    if (reply->status != BOOK_DONE)
-        return;
+    struct reply reply = run(book, "book_order", book_order, asked);
+    const struct book_row *answer = &reply.answer;
+    if (reply.status != BOOK_DONE)
+        return reply;
     printf("   answer: trade %" PRIu64 ", price %s, charge %s, commission %s %%; ", answer->id, MONEY(answer->n3),
            MONEY(answer->n1), decimal(answer->n2, 2, (char[TEXT]){0}));
     if (answer->m1 == 0 && answer->m2 == 0)
         printf("it closes no lot\n");
     else
         printf("the shares that it closes are bought for %s and sold for %s, tax %s\n", MONEY(answer->m1),
-               MONEY(answer->m2), MONEY(reply->tax));
-}
-
-static struct reply order(struct book *book, const struct book_row *asked)
-{
-    struct reply reply = run(book, "book_order", book_order, asked);
-    say_ordered(&reply);
+               MONEY(answer->m2), MONEY(reply.tax));
     return reply;
-}
-
-/* The balance was this before it. */
-static void say_booked(const struct reply *reply, int64_t before)
-{
-    if (reply->status == BOOK_DONE)
-        printf("   answer: account %" PRIu32 ", trade %" PRIu64 ", tax %s, settles %s; balance %s before, %s after\n",
-               reply->answer.party, reply->answer.id, MONEY(reply->tax), MONEY(reply->answer.m2), MONEY(before),
-               MONEY(reply->answer.m1));
 }
 
 static struct reply result(struct book *book, uint64_t trade, int32_t price, uint32_t time)
@@ -142,7 +128,10 @@ static struct reply result(struct book *book, uint64_t trade, int32_t price, uin
     const struct book_row asked = {.kind = BOOK_KIND_RESULT, .id = trade, .n1 = price, .time = time};
     int64_t before = balance(book);
     struct reply reply = run(book, "book_result", book_result, &asked);
-    say_booked(&reply, before);
+    if (reply.status == BOOK_DONE)
+        printf("   answer: account %" PRIu32 ", trade %" PRIu64 ", tax %s, settles %s; balance %s before, %s after\n",
+               reply.answer.party, reply.answer.id, MONEY(reply.tax), MONEY(reply.answer.m2), MONEY(before),
+               MONEY(reply.answer.m1));
     return reply;
 }
 
@@ -177,34 +166,6 @@ static int32_t look_up(const struct book *book, const uint64_t trades[2], struct
     return status;
 }
 
-enum { ITEMS = 3 };
-
-/* Has a batch of three items, prints what came of each, and gives the status of the whole. */
-static int32_t batch(struct book *book, const struct book_row asked[ITEMS], struct reply replies[ITEMS])
-{
-    struct book before = *book;
-    uint8_t input[ITEMS * BOOK_RECORD_SIZE], answer[ITEMS * BOOK_RECORD_SIZE] = {0};
-    int32_t status;
-    size_t n;
-    book_write_rows(input, sizeof input, asked, ITEMS);
-    status = book_batch(book->bytes, sizeof book->bytes, input, sizeof input, answer, sizeof answer);
-    say_status("book_batch", status);
-    say_changes(before.bytes, book->bytes, sizeof book->bytes);
-    for (n = 0; n < ITEMS; n++) {
-        struct reply *reply = &replies[n];
-        reply->status = book_item_status(answer, n);
-        reply->answer = book_read_row(answer + n * BOOK_RECORD_SIZE);
-        reply->tax = book_row_tax(&reply->answer);
-        printf("   item %zu, %s, has status %" PRId32 ": %s\n", n + 1, book_kind_name(asked[n].kind), reply->status,
-               book_status_text(reply->status));
-        if (asked[n].kind == BOOK_KIND_ORDER)
-            say_ordered(reply);
-        else
-            say_booked(reply, balance(&before));
-    }
-    return status;
-}
-
 /* Holds one figure to the one that is expected, and gives how many are wrong. */
 static int wrong(const char *name, int64_t found, int64_t expected, int decimals)
 {
@@ -226,37 +187,7 @@ static int wrong_count(const char *name, int64_t found, int64_t expected)
     return wrong(name, found, expected, 0);
 }
 
-/* Runs the batch of the evening, and gives how many of its figures are wrong. */
-static int run_evening(struct book *book)
-{
-    static const struct book_row items[ITEMS] = {
-        {.kind = BOOK_KIND_ORDER, .type = BOOK_TMS, .flags = BOOK_FLAG_CASH, .party = ACCOUNT, .symbol = "ABC",
-         .n1 = 20, .time = MORNING + 8 * MINUTE},
-        {.kind = BOOK_KIND_RESULT, .id = 16, .n1 = 2890, .time = MORNING + 9 * MINUTE},
-        {.kind = BOOK_KIND_RESULT, .id = 16, .n1 = 2890, .time = MORNING + 9 * MINUTE}};
-    struct reply replies[ITEMS];
-    int32_t status;
-    int faults = 0;
-
-    printf("\n11. Batch of three items in one call: account 1 sells 20 ABC at the market, in cash; the sell, which is "
-           "trade 16 by then, is carried out at 28.90; and the same result comes again by mistake. That item alone is "
-           "refused.\n");
-    status = batch(book, items, replies);
-    printf("\nAccount %d ends the day with %s.\n\nThe batch's figures, checked:\n", ACCOUNT, MONEY(balance(book)));
-    faults += wrong_count("status of the batch", status, BOOK_DONE);
-    faults += wrong_count("status of its order", replies[0].status, BOOK_DONE);
-    faults += wrong_count("number of its trade", (int64_t)replies[0].answer.id, 16);
-    faults += wrong_count("status of its result", replies[1].status, BOOK_DONE);
-    faults += wrong_money("its tax", replies[1].tax, 1560);
-    faults += wrong_money("it settles", replies[1].answer.m2, 55451);
-    faults += wrong_money("balance after it", balance(book), 1274223);
-    faults += wrong_count("status of the result that came again", replies[2].status, BOOK_RESULT_NOT_SUBMITTED);
-    faults += wrong_count("shares that lot 11 keeps", find(book, BOOK_KIND_LOT, 11, ACCOUNT).m1, 10);
-    faults += wrong_count("shares of ABC in the evening", find(book, BOOK_KIND_SUMMARY, 0, ACCOUNT).m1, 50);
-    return faults;
-}
-
-/* Runs the day up to its last call, and gives how many of its figures are wrong. */
+/* Runs the day, and gives how many of its figures are wrong. */
 static int run_day(struct book *book)
 {
     static const uint64_t looked_up[] = {12, 14};
@@ -297,7 +228,7 @@ static int run_day(struct book *book)
     bought = result(book, 13, 2890, MORNING + 7 * MINUTE);
     printf("\n10. Lookup of trades 12 and 14, each with its settlement.\n");
     found = look_up(book, looked_up, seen);
-    printf("\nAccount %d has %s now.\n\nThe figures up to here, checked:\n", ACCOUNT, MONEY(balance(book)));
+    printf("\nAccount %d ends the day with %s.\n\nThe day's figures, checked:\n", ACCOUNT, MONEY(balance(book)));
 
     faults += wrong_count("status of the sell", sell.status, BOOK_DONE);
     faults += wrong_count("number of its trade", (int64_t)sell.answer.id, 12);
@@ -321,7 +252,7 @@ static int run_day(struct book *book)
     faults += wrong_count("status of the buy's result", bought.status, BOOK_DONE);
     faults += wrong_money("it settles", bought.answer.m2, -116928);
     faults += wrong_money("balance after it", balance(book), 1218772);
-    faults += wrong_count("shares of ABC after it", find(book, BOOK_KIND_SUMMARY, 0, ACCOUNT).m1, 70);
+    faults += wrong_count("shares of ABC in the evening", find(book, BOOK_KIND_SUMMARY, 0, ACCOUNT).m1, 70);
     faults += wrong_count("status of the lookup", found, BOOK_DONE);
     faults += wrong_money("settlement of trade 12 by the lookup", seen[1].m1, 335700);
     faults += wrong_count("status of trade 14 by the lookup, 1 is pending", seen[2].status, BOOK_PNDG);
@@ -349,7 +280,6 @@ int main(int words, char **word)
     }
     open_book(&book);
     faults = run_day(&book);
-    faults += run_evening(&book);
     if (faults == 0)
         printf("All figures are as expected.\n");
     else

@@ -1,8 +1,8 @@
 /*
  * One digest over a fixed list of calls, made by the program itself: whatever the platform, the library must give the
- * same statuses, answers and books, and so the same digest. It prints how often each call gave each status, and each
- * item of a batch, then the digest, and fails if a status of the rules was never given. host/digest/expected has the
- * digest; tools/check-digest compares.
+ * same statuses, answers and books, and so the same digest. It prints how often each call gave each status, then the
+ * digest, and fails if a status of the rules was never given. host/digest/expected has the digest; tools/check-digest
+ * compares.
  *
  * usage: digest
  */
@@ -15,7 +15,6 @@
 
 enum { MOST_BYTES = (BOOK_MOST_RECORDS + 1) * BOOK_RECORD_SIZE };
 enum { MOST_ANSWER = 2 * BOOK_MOST_INPUTS * BOOK_RECORD_SIZE };
-enum { MOST_OF_BATCH = (BOOK_MOST_ITEMS + 1) * BOOK_RECORD_SIZE }; /* one record more than there may be */
 
 typedef int32_t call_function(uint8_t *, size_t, const uint8_t *, size_t, uint8_t *, size_t);
 
@@ -49,29 +48,20 @@ static const struct {
     {"lookup",
      lookup,
      {BOOK_DONE, BOOK_BAD_LENGTH, BOOK_BAD_BOOK, BOOK_UNSOUND, BOOK_BAD_INPUT, BOOK_LOOKUP_NO_TRADE}},
-    {"batch", book_batch, {BOOK_DONE, BOOK_BAD_LENGTH, BOOK_BAD_BOOK, BOOK_UNSOUND}},
 };
 
-/* The same of an item of a batch. */
-enum { ITEM_STATUSES = 16 };
-static const int32_t ITEM[ITEM_STATUSES + 1] = {
-    BOOK_DONE,           BOOK_BAD_INPUT,      BOOK_ORDER_NO_ACCOUNT, BOOK_ORDER_NOT_PERMITTED, BOOK_ORDER_NO_SECURITY,
-    BOOK_ORDER_NO_TAX,   BOOK_ORDER_NO_RATE,  BOOK_ORDER_NO_BAND,    BOOK_ORDER_NO_CHARGE,     BOOK_RESULT_NO_TRADE,
-    BOOK_RESULT_NOT_SUBMITTED, BOOK_RESULT_NO_TAX, BOOK_RESULT_NO_RATE, BOOK_RESULT_NO_BAND,   BOOK_OVER_LIMIT,
-    BOOK_NO_ROOM};
-
 static struct sha256 sum;
-static unsigned long given[CALLS][MOST_STATUSES], given_items[ITEM_STATUSES], calls, faults;
+static unsigned long given[CALLS][MOST_STATUSES], calls, faults;
 
-/* Counts a status of this list; one that the rules do not have there is a fault. */
-static void count_status(const char *name, const int32_t *statuses, unsigned long *counts, int32_t status)
+/* Counts a status; one that the rules do not have for this call is a fault. */
+static void count_status(enum call call, int32_t status)
 {
-    for (size_t i = 0; i == 0 || statuses[i] != BOOK_DONE; i++)
-        if (statuses[i] == status) {
-            counts[i]++;
+    for (size_t i = 0; i == 0 || CALL[call].statuses[i] != BOOK_DONE; i++)
+        if (CALL[call].statuses[i] == status) {
+            given[call][i]++;
             return;
         }
-    printf("%s gave %ld, which is no status of it\n", name, (long)status);
+    printf("%s gave %ld, which is no status of it\n", CALL[call].name, (long)status);
     faults++;
 }
 
@@ -90,41 +80,23 @@ static int32_t made(enum call call, uint8_t *book, size_t book_len, const uint8_
     sha256_add(&sum, answer, answer_len);
     if (said[4])
         sha256_add(&sum, book, book_len);
-    count_status(CALL[call].name, CALL[call].statuses, given[call], status);
-    for (size_t item = 0; call == BATCH && status == BOOK_DONE && item < input_len / BOOK_RECORD_SIZE; item++)
-        count_status("an item", ITEM, given_items, book_item_status(answer, item));
+    count_status(call, status);
     calls++;
     return status;
 }
 
-/* One of the calls, but for the batch. */
-static enum call some_call(void)
-{
-    uint64_t turn = drawn(0, 99);
-    return turn < 45 ? ORDER : turn < 75 ? RESULT : turn < 90 ? FEED : LOOKUP;
-}
-
-/* The largest trade number that an order was given, by the answers of orders among these. */
-static uint64_t last_ordered(const uint8_t *answers, size_t length, uint64_t last)
-{
-    for (size_t at = 0; at < length; at += BOOK_RECORD_SIZE)
-        if (answers[at + BOOK_AT_KIND] == BOOK_KIND_ORDER && book_get_u64(answers + at + BOOK_AT_ID) > last)
-            last = book_get_u64(answers + at + BOOK_AT_ID);
-    return last;
-}
-
 /* A call on the book as it is, or now and then with a length, a byte of the input or a byte of the book that is wrong.
    A book that such a byte made unsound is set right again. */
-static void one_call(struct book *book, enum call call)
+static void one_call(struct book *book)
 {
-    static uint8_t input[MOST_OF_BATCH], answer[MOST_OF_BATCH];
+    static uint8_t input[MOST_ANSWER], answer[MOST_ANSWER];
+    uint64_t turn = drawn(0, 99);
+    enum call call = turn < 45 ? ORDER : turn < 75 ? RESULT : turn < 90 ? FEED : LOOKUP;
     size_t input_len = make_input(call, book, input) * BOOK_RECORD_SIZE;
-    size_t answer_len = call == LOOKUP ? 2 * input_len : call == BATCH ? input_len : BOOK_RECORD_SIZE;
+    size_t answer_len = call == LOOKUP ? 2 * input_len : BOOK_RECORD_SIZE;
     uint64_t harm = drawn(0, 39);
     if (harm == 0)
-        answer_len = drawn(0, call == BATCH ? MOST_OF_BATCH : MOST_ANSWER);
-    else if (harm == 1 && call == BATCH) /* a record too many, or a part of one */
-        input_len = answer_len = once_in(2) ? (size_t)MOST_OF_BATCH : drawn(0, MOST_OF_BATCH);
+        answer_len = drawn(0, MOST_ANSWER);
     else if (harm == 1)
         input_len = drawn(0, MOST_ANSWER / 2);
     else if (harm == 2)
@@ -149,25 +121,18 @@ static void one_call(struct book *book, enum call call)
     int32_t status = made(call, book->bytes, book->length, input, input_len, answer, answer_len);
     if (call == ORDER && status == BOOK_DONE)
         book->trades = book_get_u64(answer + BOOK_AT_ID);
-    if (call == BATCH && status == BOOK_DONE)
-        book->trades = last_ordered(answer, answer_len, book->trades);
-}
-
-static void print_statuses(const char *name, const int32_t *statuses, const unsigned long *counts)
-{
-    printf("%s:", name);
-    for (size_t i = 0; i == 0 || statuses[i] != BOOK_DONE; i++) {
-        printf("%s %lu of %ld", i ? "," : "", counts[i], (long)statuses[i]);
-        faults += counts[i] == 0;
-    }
-    printf("\n");
 }
 
 static int print_counts(void)
 {
-    for (size_t call = 0; call < CALLS; call++)
-        print_statuses(CALL[call].name, CALL[call].statuses, given[call]);
-    print_statuses("items of batches", ITEM, given_items);
+    for (size_t call = 0; call < CALLS; call++) {
+        printf("%s:", CALL[call].name);
+        for (size_t i = 0; i == 0 || CALL[call].statuses[i] != BOOK_DONE; i++) {
+            printf("%s %lu of %ld", i ? "," : "", given[call][i], (long)CALL[call].statuses[i]);
+            faults += given[call][i] == 0;
+        }
+        printf("\n");
+    }
     printf("%lu calls", calls);
     if (faults)
         printf(", %lu FAULTS: a status that no call gave, or that the rules do not have", faults);
@@ -177,12 +142,10 @@ static int print_counts(void)
 
 int main(void)
 {
-    /* Books of so many records at the least and at the most, how many of them, and how many calls on each. Of the last
-       parts' calls one in so many is a batch; the parts before these are as they would be without them. */
+    /* Books of so many records at the least and at the most, how many of them, and how many calls on each. */
     static const struct {
-        size_t least, most, books, calls, batches;
-    } PART[] = {{1, 80, 60, 100, 0},  {80, 400, 320, 300, 0}, {512, 512, 20, 400, 0}, {4096, 4096, 2, 2000, 0},
-                {1, 80, 40, 30, 2}, {80, 400, 400, 20, 2},  {512, 512, 40, 20, 2},  {4096, 4096, 2, 100, 2}};
+        size_t least, most, books, calls;
+    } PART[] = {{1, 80, 60, 100}, {80, 400, 320, 300}, {512, 512, 20, 400}, {4096, 4096, 2, 2000}};
     struct book book = {0};
     book.bytes = calloc(MOST_BYTES, 1);
     if (!book.bytes) {
@@ -194,12 +157,8 @@ int main(void)
         for (size_t n = 0; n < PART[part].books; n++) {
             draw_anew(1000 * part + n);
             make_book(&book, drawn(PART[part].least, PART[part].most));
-            for (size_t i = 0; i < PART[part].calls; i++) {
-                int is_batch = PART[part].batches > 0 && once_in(PART[part].batches);
-                if (is_batch && once_in(3))
-                    change_band(&book); /* so that a result of it may meet another band than the order did */
-                one_call(&book, is_batch ? BATCH : some_call());
-            }
+            for (size_t i = 0; i < PART[part].calls; i++)
+                one_call(&book);
         }
     int failed = print_counts();
     char digits[65];

@@ -328,31 +328,10 @@ static void lookup_entry(const struct book *book, uint8_t *input)
     book_put_u64(input + BOOK_AT_ID, drawn(1, book->trades + once_in(30) + (book->trades == 0)));
 }
 
-/* Orders and results, now and then one of another kind. A result may be of an order that comes before it. */
-static size_t batch_input(const struct book *book, uint8_t *input)
-{
-    struct book meanwhile = *book;
-    size_t records = drawn(1, once_in(8) ? BOOK_MOST_ITEMS : once_in(2) ? 24 : 3);
-    memset(input, 0, records * BOOK_RECORD_SIZE);
-    for (size_t i = 0; i < records; i++) {
-        uint8_t *item = input + i * BOOK_RECORD_SIZE;
-        if (once_in(2)) {
-            order_input(book, item);
-            meanwhile.trades += once_in(4); /* about so many are accepted */
-        } else
-            result_input(&meanwhile, item);
-        if (once_in(40))
-            item[BOOK_AT_KIND] = (uint8_t)drawn(0, 255);
-    }
-    return records;
-}
-
 size_t make_input(enum call call, const struct book *book, uint8_t *input)
 {
-    static void (*const make[BATCH])(const struct book *, uint8_t *) = {order_input, result_input, feed_entry,
+    static void (*const make[CALLS])(const struct book *, uint8_t *) = {order_input, result_input, feed_entry,
                                                                         lookup_entry};
-    if (call == BATCH)
-        return batch_input(book, input);
     size_t records = call == ORDER || call == RESULT ? 1 : drawn(1, once_in(4) ? BOOK_MOST_INPUTS : 3);
     memset(input, 0, records * BOOK_RECORD_SIZE);
     for (size_t i = 0; i < records; i++)

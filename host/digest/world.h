@@ -21,7 +21,7 @@ struct book {
     uint64_t trades;    /* the largest trade number that an order was given */
 };
 
-enum call { ORDER, RESULT, FEED, LOOKUP, BATCH, CALLS };
+enum call { ORDER, RESULT, FEED, LOOKUP, CALLS };
 
 /* A sound book of so many records, with rows that no call adds, and now and then a number at the end of its range. */
 void make_book(struct book *book, size_t records);

@@ -14,8 +14,8 @@ from collections import Counter
 sys.path.insert(0, os.path.join(os.path.dirname(os.path.abspath(__file__)), "../../python"))
 from provedbook import KIND_FEED, KIND_LOOKUP, KIND_ORDER, KIND_RESULT, Library  # noqa: E402
 
-# Each call, by the kind of its input records; those of a batch are of several kinds, and 255 stands for it.
-CALLS = {KIND_ORDER: "order", KIND_RESULT: "result", KIND_FEED: "feed", KIND_LOOKUP: "lookup", 255: "batch"}
+# Each call, by the kind of its input records.
+CALLS = {KIND_ORDER: "order", KIND_RESULT: "result", KIND_FEED: "feed", KIND_LOOKUP: "lookup"}
 NUMBERS = struct.Struct("<5Ii")
 MOST_SAID = 10
 

@@ -19,10 +19,7 @@ sys.path.insert(0, os.path.join(os.path.dirname(os.path.abspath(__file__)), "../
 import provedbook  # noqa: E402
 from provedbook import *  # noqa: E402, F403
 
-CALLS = ["order", "result", "feed", "lookup", "batch"]
-# What a call's help begins with.
-TITLES = {"order": "Trade-Order", "result": "Trade-Result", "feed": "Market-Feed", "lookup": "Trade-Lookup",
-          "batch": "A batch"}
+CALLS = ["order", "result", "feed", "lookup"]
 SECURITY = Row(KIND_SECURITY, symbol="ABC", type=1, n1=200)
 ENTRY = Row(KIND_FEED, symbol="ABC", n1=210, n2=5)
 
@@ -146,58 +143,15 @@ class Books(unittest.TestCase):
         self.assertEqual(book.lookup(7, 7), [(trade, None)] * 2)
 
     def test_executors(self):
-        book = self.open_book(5)
-        book[-RECORD_SIZE:] = Row(KIND_PERMISSION, party=1, n1=5).write()
+        book = Book([Row(KIND_BROKER, party=1), Row(KIND_CUSTOMER, party=1, type=1),
+                     Row(KIND_ACCOUNT, party=1, n1=1, n2=1), SECURITY, Row(KIND_PERMISSION, party=1, n1=5),
+                     Row(KIND_BAND, type=TMB, status=1, flags=1, n1=1, n2=10, n3=50),
+                     Row(KIND_CHARGE, type=TMB, status=1, n1=500)], free=4, library=LIBRARY)
         order = {"type": TMB, "party": 1, "symbol": "ABC", "n1": 1}
         with self.assertRaises(Refused) as caught:
             book.order(**order, n3=6)
         self.assertEqual(caught.exception.status, ORDER_NOT_PERMITTED)
         self.assertEqual([book.order(**order, n3=executor).id for executor in (0, 5)], [1, 2])
-
-    def open_book(self, free):
-        return Book([Row(KIND_BROKER, party=1), Row(KIND_CUSTOMER, party=1, type=1),
-                     Row(KIND_ACCOUNT, party=1, n1=1, n2=1), SECURITY,
-                     Row(KIND_BAND, type=TMB, status=1, flags=1, n1=1, n2=10, n3=50),
-                     Row(KIND_CHARGE, type=TMB, status=1, n1=500)], free=free, library=LIBRARY)
-
-    def test_batch(self):
-        order = {"type": TMB, "party": 1, "symbol": "ABC", "n1": 1}
-        items = [Row(KIND_ORDER, **order), Row(KIND_RESULT, id=1, n1=200), Row(KIND_RESULT, id=1, n1=200),
-                 Row(KIND_ORDER, **(order | {"n1": 11})), Row(KIND_FEED, symbol="ABC", n1=1, n2=1), Row(),
-                 Row(KIND_ORDER, **order), Row(KIND_RESULT, id=9, n1=200)]
-        book, singly = self.open_book(20), self.open_book(20)
-        found = book.batch(items)
-        answers = [singly.order(**order), singly.result(id=1, n1=200), singly.order(**order)]
-        self.assertEqual([found[0], found[1], found[6]], answers)
-        self.assertEqual([answer.id for answer in answers], [1, 1, 2])
-        refused = found[2:6] + found[7:]
-        self.assertTrue(all(type(answer) is Refused for answer in refused))
-        self.assertEqual([answer.status for answer in refused],
-                         [RESULT_NOT_SUBMITTED, ORDER_NO_BAND, BAD_INPUT, BAD_INPUT, RESULT_NO_TRADE])
-        self.assertEqual(found[2].text, "result: the trade's status is not 2, submitted")
-        self.assertEqual(book, singly)
-
-    def test_batch_of_as_many_as_may_be(self):
-        order = Row(KIND_ORDER, type=TMB, flags=FLAG_ROLL_BACK, party=1, symbol="ABC", n1=1)
-        book = self.open_book(2)
-        self.assertEqual([answer.id for answer in book.batch([order] * MOST_ITEMS)], [1] * MOST_ITEMS)
-
-    def test_whole_batch_refused(self):
-        order = Row(KIND_ORDER, type=TMB, party=1, symbol="ABC", n1=1)
-        for rows in ([], [order] * (MOST_ITEMS + 1)):
-            self.refuses_batch(self.open_book(600), rows, BAD_LENGTH)
-        self.refuses_batch(Book(library=LIBRARY), [order], BAD_BOOK)
-        self.refuses_batch(Book([SECURITY, SECURITY], library=LIBRARY), [order, order], UNSOUND)
-        answer = bytearray(b"\x5a" * 2 * RECORD_SIZE)
-        self.assertEqual(LIBRARY.batch(bytearray(SECURITY.write() * 2), order.write() * 2, answer), UNSOUND)
-        self.assertEqual(answer, Row(n5=UNSOUND).write() + bytes(RECORD_SIZE))
-
-    def refuses_batch(self, book, rows, status):
-        before = bytes(book)
-        with self.assertRaises(Refused) as caught:
-            book.batch(rows)
-        self.assertEqual(caught.exception.status, status)
-        self.assertEqual(book, before)
 
     def test_texts(self):
         self.assertEqual(len(STATUS_TEXT), 21)
@@ -209,7 +163,7 @@ class Books(unittest.TestCase):
         for of in (Library, Book):
             for name in CALLS:
                 method = getattr(of, name)
-                self.assertTrue(inspect.getdoc(method).startswith(TITLES[name]), name)
+                self.assertIn("Trade-" if name != "feed" else "Market-", inspect.getdoc(method))
                 self.assertIn(name + "(", pydoc.plain(pydoc.render_doc(method)))
         self.assertEqual(list(inspect.signature(Library.order).parameters), ["self", "book", "input", "answer"])
 

@@ -12,9 +12,7 @@
 #include <stdlib.h>
 #include <sys/mman.h>
 
-enum { SIZE = 1 << 20, PAINT = 0xa7, MOST_AREA = 1 << 24 };
-/* The calls by the kinds of their records, from BOOK_KIND_ORDER on, and the batch, which has 255 in the stream. */
-enum { ORDER, RESULT, FEED, LOOKUP, BATCH, CALLS, BATCH_KIND = 255 };
+enum { SIZE = 1 << 20, PAINT = 0xa7, MOST_AREA = 1 << 24, CALLS = 4 };
 enum { PARTY = 1, LOT_SHARES = 2, PRICE = 2000, LOTS = 816, REQUESTS = 1022 };
 
 /* A call, and how much stack it has taken at most. */
@@ -30,8 +28,8 @@ static int32_t lookup(uint8_t *book, size_t book_len, const uint8_t *input, size
     return book_lookup(book, book_len, input, input_len, answer, answer_len);
 }
 
-static uint8_t book[BOOK_MOST_RECORDS * BOOK_RECORD_SIZE];
-static uint8_t input[BOOK_MOST_ITEMS * BOOK_RECORD_SIZE], answer[BOOK_MOST_ITEMS * BOOK_RECORD_SIZE];
+static uint8_t book[BOOK_MOST_RECORDS * BOOK_RECORD_SIZE], answer[2 * BOOK_MOST_INPUTS * BOOK_RECORD_SIZE];
+static uint8_t input[BOOK_MOST_INPUTS * BOOK_RECORD_SIZE];
 static uint8_t *painted;
 static unsigned long passed, failed;
 
@@ -155,10 +153,6 @@ static void ask(const char *name, size_t call, struct book_row row, size_t recor
     job.area[2].bytes = answer;
     job.area[2].length = answers * BOOK_RECORD_SIZE;
     measure(&job, BOOK_DONE, name);
-    if (call == BATCH && book_item_status(answer, 0) != BOOK_DONE) {
-        printf("%s, %s: the first item has status %d\n", calls[call].name, name, (int)book_item_status(answer, 0));
-        failed++;
-    }
 }
 
 static void worst_books(void)
@@ -167,20 +161,16 @@ static void worst_books(void)
     for (flags = 0; flags <= BOOK_FLAG_LIFO; flags = (uint8_t)(flags + BOOK_FLAG_LIFO)) {
         const struct book_row order = {.kind = BOOK_KIND_ORDER, .type = BOOK_TMS, .flags = flags, .party = PARTY,
                                        .symbol = "ABC", .n1 = LOTS * LOT_SHARES + 1};
-        const struct book_row result = {.kind = BOOK_KIND_RESULT, .id = LOTS + 1, .n1 = PRICE};
         stand_lots(flags);
-        ask("many lots", LOOKUP, (struct book_row){.kind = BOOK_KIND_LOOKUP, .id = LOTS}, BOOK_MOST_INPUTS,
-            2 * BOOK_MOST_INPUTS);
-        ask("many lots", ORDER, order, 1, 1);
+        ask("many lots", BOOK_KIND_LOOKUP - BOOK_KIND_ORDER, (struct book_row){.kind = BOOK_KIND_LOOKUP, .id = LOTS},
+            BOOK_MOST_INPUTS, 2 * BOOK_MOST_INPUTS);
+        ask("many lots", 0, order, 1, 1);
         stand_lots(flags);
-        ask("many lots", RESULT, result, 1, 1);
-        stand_lots(flags);
-        ask("many lots, all closed by the first of many results", BATCH, result, BOOK_MOST_ITEMS, BOOK_MOST_ITEMS);
-        stand_lots(flags);
-        ask("many lots and many orders", BATCH, order, BOOK_MOST_ITEMS, BOOK_MOST_ITEMS);
+        ask("many lots", BOOK_KIND_RESULT - BOOK_KIND_ORDER,
+            (struct book_row){.kind = BOOK_KIND_RESULT, .id = LOTS + 1, .n1 = PRICE}, 1, 1);
     }
     stand_requests();
-    ask("many requests", FEED,
+    ask("many requests", BOOK_KIND_FEED - BOOK_KIND_ORDER,
         (struct book_row){.kind = BOOK_KIND_FEED, .symbol = "ABC", .n1 = PRICE, .n2 = 1}, BOOK_MOST_INPUTS, 1);
 }
 
@@ -189,8 +179,7 @@ static void stream(void)
 {
     uint8_t head[24];
     while (fread(head, 1, sizeof head, stdin) == sizeof head) {
-        const uint32_t kind = book_get_u32(head);
-        struct job job = {.call = kind == BATCH_KIND ? BATCH : kind - BOOK_KIND_ORDER};
+        struct job job = {.call = book_get_u32(head) - BOOK_KIND_ORDER};
         size_t n, length[5], all = 0;
         uint8_t *bytes, *at;
         for (n = 0; n < 5; n++)
@@ -210,14 +199,12 @@ static void stream(void)
 int main(void)
 {
     size_t n, most = 0;
-    for (n = 0; n < BATCH; n++)
+    for (n = 0; n < CALLS; n++)
         calls[n].name = book_kind_name((uint8_t)(BOOK_KIND_ORDER + n));
-    calls[BATCH].name = "batch";
-    calls[ORDER].run = book_order;
-    calls[RESULT].run = book_result;
-    calls[FEED].run = book_feed;
-    calls[LOOKUP].run = lookup;
-    calls[BATCH].run = book_batch;
+    calls[0].run = book_order;
+    calls[1].run = book_result;
+    calls[2].run = book_feed;
+    calls[3].run = lookup;
     painted = mmap(NULL, SIZE, PROT_READ | PROT_WRITE, MAP_PRIVATE | MAP_ANONYMOUS, -1, 0);
     need(painted != MAP_FAILED, "mmap");
     worst_books();

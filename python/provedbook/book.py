@@ -1,12 +1,11 @@
 """A book whose calls take rows and give rows."""
 from .constants import KIND_FEED, KIND_LOOKUP, KIND_ORDER, KIND_RESULT, RECORD_SIZE
-from .library import Library, Refused, done
+from .library import Library, done
 from .row import Row
 
 
 class Book(bytearray):
-    """A book: its bytes, and the calls on it with rows. A refusal raises Refused and leaves the bytes as they were. A
-    refused item of a batch raises nothing: see `batch`.
+    """A book: its bytes, and the calls on it with rows. A refusal raises Refused and leaves the bytes as they were.
 
     Book([Row(..), ..], free=8) has these rows and then so many free places. `library` is the Library to call, else one
     that is found as Library() does.
@@ -36,15 +35,6 @@ class Book(bytearray):
         """Trade-Lookup of these trade numbers. Gives a pair for each: its trade, and its settlement or None."""
         found = self._rows(self.library.lookup, [Row(KIND_LOOKUP, id=number) for number in numbers], 2 * len(numbers))
         return [(trade, settlement if settlement.kind else None) for trade, settlement in zip(found[::2], found[1::2])]
-
-    def batch(self, rows):
-        """A batch of these rows, each an order, Row(KIND_ORDER, ..), or a result, Row(KIND_RESULT, ..), in turn.
-
-        Gives a list of what came of each: its answer as a Row, or Refused, which is not raised: that item alone was
-        refused. Refused is raised for the whole batch, where its length is wrong or the book is refused.
-        """
-        answers = self._rows(self.library.batch, rows, len(rows))
-        return [Refused(answer.n5) if answer.n5 else answer for answer in answers]
 
     def _one(self, call, inputs):
         return self._rows(call, inputs, 1)[0]

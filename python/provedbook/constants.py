@@ -5,7 +5,7 @@ VERSION_MAJOR = 1  # rises when a call that was accepted may now leave other byt
 VERSION_MINOR = 0  # rises with new calls, kinds or statuses, or if a refused call may be accepted now
 VERSION_PATCH = 0  # rises with any other change
 
-# What a call returns, or an item of a batch, in the order of checking. The comment is the condition.
+# What a call returns, in the order of checking. The comment is the condition.
 DONE = 0
 BAD_LENGTH = -100
 BAD_BOOK = -101
@@ -32,7 +32,6 @@ NO_ROOM = -105
 RECORD_SIZE = 64  # bytes of a record
 MOST_RECORDS = 4096  # of a book
 MOST_INPUTS = 20  # records of one feed or lookup
-MOST_ITEMS = 256  # records of one batch
 MOST_STACK = 262144  # bytes of stack that a call takes, with all that it calls
 
 # Where a field of a record begins. Fields that a kind does not use are zero.

@@ -6,7 +6,7 @@ from .constants import DONE, STATUS_TEXT, VERSION_MAJOR
 
 
 class Refused(Exception):
-    """A call was refused, or an item of a batch: `status` is its number, `text` the condition that held."""
+    """A call was refused: `status` is its number, `text` the condition that held."""
 
     def __init__(self, status):
         self.status = status
@@ -47,7 +47,7 @@ class Library:
     def __init__(self, path=None):
         self.path = path or os.environ.get("BOOK_LIBRARY") or f"libbook.so.{VERSION_MAJOR}"
         calls = ctypes.CDLL(os.fspath(self.path))
-        for name in ("order", "result", "feed", "lookup", "batch"):
+        for name in ("order", "result", "feed", "lookup"):
             call = calls["book_" + name]
             call.argtypes = [ctypes.c_void_p, ctypes.c_size_t] * 3
             call.restype = ctypes.c_int32
@@ -68,13 +68,6 @@ class Library:
     def lookup(self, book, input, answer):
         """Trade-Lookup: trades by number. The book is read; 1 to 20 records of KIND_LOOKUP, two answers for each."""
         return self._run(self._lookup, book, False, input, answer)
-
-    def batch(self, book, input, answer):
-        """A batch: orders and results in turn. The book is written; 1 to 256 records, one answer for each.
-
-        The status is DONE even where items are refused: each has its own, at AT_N5 of its own record of the answer.
-        """
-        return self._run(self._batch, book, True, input, answer)
 
     @staticmethod
     def _run(call, book, book_is_written, input, answer):

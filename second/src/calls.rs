@@ -1,9 +1,7 @@
-//! "The four transactions" of 01, with its "Status numbers, in order of checking", and batches of the
-//! first two (2026-03).
+//! "The four transactions" of 01, with its "Status numbers, in order of checking".
 //!
 //! Each call works on a copy of the rows. Only when nothing was refused is the copy written back,
-//! so a refusal leaves the book as found whatever the work on the copy was. So does each item of a
-//! batch.
+//! so a refusal leaves the book as found whatever the work on the copy was.
 
 use crate::record::*;
 use crate::sound;
@@ -34,14 +32,6 @@ pub const NO_ROOM: i32 = -105;
 
 /// "Input: 1 to 20 records" of a feed or a lookup.
 pub const MAX_ENTRIES: usize = 20;
-/// "Take 1 to 256 order and result records in one call" (2026-03).
-pub const MAX_ITEMS: usize = 256;
-
-/// Every status that an item of a batch can get: those of an order and of a result, but for the ones
-/// that refuse the whole batch.
-pub const ITEM_STATUSES: &[i32] = &[
-    -103, -711, -721, -712, -731, -732, -735, -733, -811, -812, -831, -841, -842, -104, -105, 0,
-];
 
 #[derive(Clone, Copy, Debug, PartialEq, Eq, PartialOrd, Ord, Hash)]
 pub enum Call {
@@ -49,19 +39,10 @@ pub enum Call {
     Result,
     Feed,
     Lookup,
-    Batch,
 }
 
 impl Call {
-    pub const ALL: [Call; 5] = [
-        Call::Order,
-        Call::Result,
-        Call::Feed,
-        Call::Lookup,
-        Call::Batch,
-    ];
-    /// All but the batch: each of them has input records of one kind.
-    pub const SINGLE: [Call; 4] = [Call::Order, Call::Result, Call::Feed, Call::Lookup];
+    pub const ALL: [Call; 4] = [Call::Order, Call::Result, Call::Feed, Call::Lookup];
 
     pub fn name(self) -> &'static str {
         match self {
@@ -69,23 +50,20 @@ impl Call {
             Call::Result => "result",
             Call::Feed => "feed",
             Call::Lookup => "lookup",
-            Call::Batch => "batch",
         }
     }
 
-    /// The kind of its input records. Those of a batch are of several kinds: 255, which is no kind,
-    /// stands for it in streams and seeds.
+    /// The kind of its input records.
     pub fn kind(self) -> u8 {
         match self {
             Call::Order => ORDER_INPUT,
             Call::Result => RESULT_INPUT,
             Call::Feed => FEED_INPUT,
             Call::Lookup => LOOKUP_INPUT,
-            Call::Batch => 255,
         }
     }
 
-    /// Every status this call can give. The items of a batch have theirs beside it.
+    /// Every status this call can give.
     pub fn statuses(self) -> &'static [i32] {
         match self {
             Call::Order => &[
@@ -96,28 +74,23 @@ impl Call {
             ],
             Call::Feed => &[-100, -101, -102, -103, -311, -104, -105, 0],
             Call::Lookup => &[-100, -101, -102, -103, -611, 0],
-            Call::Batch => &[-100, -101, -102, 0],
         }
     }
 
-    /// The input is one record for an order or a result, 1 to 20 for a feed or a lookup, 1 to 256 for
-    /// a batch.
+    /// The input is one record for an order or a result, 1 to 20 for a feed or a lookup.
     pub fn input_length_is_good(self, input: usize) -> bool {
         let most = match self {
             Call::Order | Call::Result => 1,
             Call::Feed | Call::Lookup => MAX_ENTRIES,
-            Call::Batch => MAX_ITEMS,
         };
         input.is_multiple_of(RECORD) && (1..=most).contains(&(input / RECORD))
     }
 
-    /// "Order, result and feed answer one record"; a lookup answers "two records for each in turn", a
-    /// batch "one answer record each".
+    /// "Order, result and feed answer one record"; a lookup answers "two records for each in turn".
     pub fn answer_length(self, input: usize) -> usize {
         match self {
             Call::Order | Call::Result | Call::Feed => RECORD,
             Call::Lookup => 2 * input,
-            Call::Batch => input,
         }
     }
 
@@ -129,15 +102,6 @@ impl Call {
     /// Runs this call on a book that is known to be sound: only its length is checked.
     pub fn run_on_sound(self, book: &mut [u8], input: &[u8], answer: &mut [u8]) -> i32 {
         run(self, book, input, answer, false)
-    }
-}
-
-/// The call that takes a record of this kind as an item of a batch. Another kind is none's.
-pub fn single(record_kind: u8) -> Option<Call> {
-    match record_kind {
-        ORDER_INPUT => Some(Call::Order),
-        RESULT_INPUT => Some(Call::Result),
-        _ => None,
     }
 }
 
@@ -155,10 +119,6 @@ pub fn feed(book: &mut [u8], input: &[u8], answer: &mut [u8]) -> i32 {
 
 pub fn lookup(book: &mut [u8], input: &[u8], answer: &mut [u8]) -> i32 {
     Call::Lookup.run(book, input, answer)
-}
-
-pub fn batch(book: &mut [u8], input: &[u8], answer: &mut [u8]) -> i32 {
-    Call::Batch.run(book, input, answer)
 }
 
 // The same on a book that is known to be sound, for long runs. On another they may panic.
@@ -179,10 +139,6 @@ pub fn lookup_on_sound(book: &mut [u8], input: &[u8], answer: &mut [u8]) -> i32 
     Call::Lookup.run_on_sound(book, input, answer)
 }
 
-pub fn batch_on_sound(book: &mut [u8], input: &[u8], answer: &mut [u8]) -> i32 {
-    Call::Batch.run_on_sound(book, input, answer)
-}
-
 fn run(call: Call, book: &mut [u8], input: &[u8], answer: &mut [u8], check: bool) -> i32 {
     // "-100: input or answer area has the wrong length; nothing at all is written"
     let lengths_are_good =
@@ -199,7 +155,7 @@ fn run(call: Call, book: &mut [u8], input: &[u8], answer: &mut [u8], check: bool
         }
         Err(status) => {
             // "A refusal leaves the book as found; all answer bytes are zero but the status,
-            // signed, in bytes 60-63". For a lookup or a batch these are bytes of the whole area.
+            // signed, in bytes 60-63". For a lookup these are bytes of the whole area.
             answer.fill(0);
             answer[60..64].copy_from_slice(&status.to_le_bytes());
             status
@@ -207,7 +163,8 @@ fn run(call: Call, book: &mut [u8], input: &[u8], answer: &mut [u8], check: bool
     }
 }
 
-/// The rows of the book afterwards and the records of the answer, or the refusal.
+/// The rows of the book afterwards and the records of the answer, or the refusal. The answer of a
+/// success has its status, 0, in bytes 60-63 (n5) as no answer or row uses n5.
 fn decide(call: Call, book: &[u8], input: &[u8], check: bool) -> Result<(Vec<Row>, Vec<Row>), i32> {
     if check {
         // -101, then -102.
@@ -221,46 +178,6 @@ fn decide(call: Call, book: &[u8], input: &[u8], check: bool) -> Result<(Vec<Row
     {
         return Err(BOOK_LENGTH);
     }
-    let rows = rows_of(book);
-    match call {
-        Call::Batch => Ok(do_batch(rows, input)),
-        _ => do_single(call, rows, input),
-    }
-}
-
-/// "Book and answers equal the single calls made in turn" (2026-03): the rows after the last item,
-/// and the answer of each.
-fn do_batch(mut rows: Vec<Row>, input: &[u8]) -> (Vec<Row>, Vec<Row>) {
-    let mut answered = Vec::new();
-    for record in input.chunks_exact(RECORD) {
-        answered.push(do_item(&mut rows, record));
-    }
-    (rows, answered)
-}
-
-/// An item of a batch, on the rows as the items before it left them, and its answer. "A refused item
-/// changes nothing", and its answer is zero but for the status.
-pub(crate) fn do_item(rows: &mut Vec<Row>, record: &[u8]) -> Row {
-    let outcome = match single(record[0]) {
-        Some(call) => do_single(call, rows.clone(), record),
-        // "another kind of record is -103"
-        None => Err(BAD_INPUT),
-    };
-    match outcome {
-        Ok((after, answered)) => {
-            *rows = after;
-            answered[0]
-        }
-        Err(status) => Row {
-            n5: status as u32,
-            ..Row::default()
-        },
-    }
-}
-
-/// A call that is no batch, on the rows of a sound book. The answer of a success has its status, 0, in
-/// bytes 60-63 (n5) as no answer or row uses n5.
-fn do_single(call: Call, rows: Vec<Row>, input: &[u8]) -> Result<(Vec<Row>, Vec<Row>), i32> {
     // "-103: an input field breaks its rule". All records are checked before any is looked up.
     for record in input.chunks_exact(RECORD) {
         if check_input(call.kind(), record.try_into().unwrap()).is_err() {
@@ -268,13 +185,12 @@ fn do_single(call: Call, rows: Vec<Row>, input: &[u8]) -> Result<(Vec<Row>, Vec<
         }
     }
     let input = rows_of(input);
-    let mut book = Book::new(rows);
+    let mut book = Book::new(book);
     let answered = match call {
         Call::Order => vec![do_order(&mut book, &input[0])?],
         Call::Result => vec![do_result(&mut book, &input[0])?],
         Call::Feed => vec![do_feed(&mut book, &input)?],
         Call::Lookup => do_lookup(&book, &input)?,
-        Call::Batch => unreachable!("no item of a batch is a batch"),
     };
     Ok((book.rows, answered))
 }
@@ -286,7 +202,8 @@ struct Book {
 }
 
 impl Book {
-    fn new(rows: Vec<Row>) -> Book {
+    fn new(book: &[u8]) -> Book {
+        let rows = rows_of(book);
         let free_at_entry = (0..rows.len())
             .filter(|place| rows[*place].is_free())
             .collect();

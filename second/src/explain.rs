@@ -1,7 +1,7 @@
 //! Why a book is refused: the first rule that fails, the place of a row that breaks it, and what is wrong with it, in
 //! words. The rules are decided by `sound`; here they are gone through once more, plainly, for the place.
 
-use crate::calls::{single, Call, BAD_INPUT, BOOK_LENGTH, NOT_SOUND, WRONG_LENGTH};
+use crate::calls::{Call, BAD_INPUT, BOOK_LENGTH, NOT_SOUND, WRONG_LENGTH};
 use crate::record::*;
 use crate::sound::{self, key, Rule};
 use crate::words;
@@ -364,8 +364,7 @@ pub fn book(bytes: &[u8]) -> (bool, String) {
     }
 }
 
-/// What `book-check` says of the input of a call: whether it is good, and the lines of its answer. Of a
-/// batch it names the first item that is -103, though the batch goes on without it.
+/// What `book-check` says of the input of a call: whether it is good, and the lines of its answer.
 pub fn input(call: Call, bytes: &[u8]) -> (bool, String) {
     if !call.input_length_is_good(bytes.len()) {
         let (length, name) = (bytes.len(), call.name());
@@ -375,17 +374,10 @@ pub fn input(call: Call, bytes: &[u8]) -> (bool, String) {
         );
     }
     for (number, record) in bytes.chunks_exact(RECORD).enumerate() {
-        let record: &[u8; RECORD] = record.try_into().unwrap();
-        let (kind, kinds) = match call {
-            Call::Batch => {
-                let item = single(record[0]).unwrap_or(Call::Order);
-                (item.kind(), "33 or 34".to_string())
-            }
-            _ => (call.kind(), call.kind().to_string()),
-        };
-        if let Err(field) = check_input(kind, record) {
+        let record = record.try_into().unwrap();
+        if let Err(field) = check_input(call.kind(), record) {
             let (row, name) = (Row::read(record), words::field_name(field));
-            let why = words::why(&row, field, &kinds);
+            let why = words::why(&row, field, &call.kind().to_string());
             let said = words::row(&row);
             return (
                 false,

@@ -1,8 +1,6 @@
 //! What an accepted call had to do, in words, so that one sees whether random cases do enough; and
 //! why an executor, a gain or the search for a band was refused.
 
-mod batches;
-
 use crate::calls::{
     Call, BAD_INPUT, NO_ROOM, ORDER_NOT_PERMITTED, ORDER_NO_ACCOUNT, ORDER_NO_BAND,
     ORDER_NO_CHARGE, ORDER_NO_RATE, ORDER_NO_SECURITY, ORDER_NO_TAX, OUT_OF_RANGE, RESULT_NO_BAND,
@@ -10,8 +8,7 @@ use crate::calls::{
 };
 use crate::record::*;
 
-/// Every feature that random cases should show, even on books of 24 records; those of batches, on books
-/// of 64.
+/// Every feature that random cases should show, even on books of 24 records.
 pub const WANTED: &[(Call, &[&str])] = &[
     (
         Call::Order,
@@ -99,7 +96,6 @@ pub const WANTED: &[(Call, &[&str])] = &[
         Call::Lookup,
         &["finds a settlement", "finds none", "names a trade twice"],
     ),
-    (Call::Batch, batches::WANTED),
 ];
 
 const WITHOUT_RATES: &str = "is refused without rates";
@@ -182,7 +178,7 @@ pub fn reasons(call: Call) -> Vec<&'static str> {
     match call {
         Call::Order => [EXECUTOR_REASONS, TAX_REASONS, BAND_REASONS].concat(),
         Call::Result => [TAX_REASONS, BAND_REASONS].concat(),
-        Call::Feed | Call::Lookup | Call::Batch => Vec::new(),
+        Call::Feed | Call::Lookup => Vec::new(),
     }
 }
 
@@ -569,7 +565,6 @@ pub fn of(
             let twice = (0..input.len()).any(|i| (0..i).any(|j| input[i].id == input[j].id));
             note(twice, "names a trade twice");
         }
-        Call::Batch => found = batches::of(&before, &input, &answer),
     }
     found
 }

@@ -1,22 +1,18 @@
-//! A seeded generator of sound books, and of inputs for the calls.
+//! A seeded generator of sound books, and of inputs for the four calls.
 //!
 //! A book is made of units (an account, a pending trade with its request and history, ...) each of
 //! which keeps it sound, until its places are used up but for those that shall stay free. Then the
 //! rows are strewn over the places.
 
-mod batches;
-
 use crate::calls::{
-    single, Call, BAD_INPUT, BOOK_LENGTH, MAX_ENTRIES, NOT_SOUND, NO_ROOM, ORDER_NO_BAND,
-    ORDER_NO_CHARGE, ORDER_NO_RATE, ORDER_NO_TAX, OUT_OF_RANGE, RESULT_NO_BAND, RESULT_NO_RATE,
-    RESULT_NO_TAX, WRONG_LENGTH,
+    Call, BAD_INPUT, BOOK_LENGTH, MAX_ENTRIES, NOT_SOUND, NO_ROOM, ORDER_NO_BAND, ORDER_NO_CHARGE,
+    ORDER_NO_RATE, ORDER_NO_TAX, OUT_OF_RANGE, RESULT_NO_BAND, RESULT_NO_RATE, RESULT_NO_TAX,
+    WRONG_LENGTH,
 };
 use crate::mutate;
 use crate::record::*;
 use crate::rng::Rng;
 use std::collections::{HashMap, HashSet};
-
-pub use batches::batch_input;
 
 /// What a book shall be like.
 #[derive(Clone, Debug)]
@@ -71,9 +67,6 @@ impl Plan {
 
     /// A plan that has what this call works on, more often than not.
     pub fn for_call(rng: &mut Rng, call: Call, records: usize) -> Plan {
-        if call == Call::Batch {
-            return batches::plan(rng, records);
-        }
         let mut plan = Plan::random(rng, records);
         if rng.chance(if call == Call::Result { 60 } else { 40 }) {
             match call {
@@ -91,7 +84,7 @@ impl Plan {
                     }
                 }
                 Call::Feed => plan.focus = Focus::Requests,
-                Call::Lookup | Call::Batch => {}
+                Call::Lookup => {}
             }
         } else if call == Call::Result && rng.chance(60) {
             plan.submitted = 50;
@@ -1262,7 +1255,6 @@ pub fn good_input(rng: &mut Rng, call: Call, rows: &[Row]) -> Vec<Row> {
         Call::Result => vec![result_input(rng, rows)],
         Call::Feed => feed_input(rng, rows),
         Call::Lookup => lookup_input(rng, rows),
-        Call::Batch => batch_input(rng, rows),
     }
 }
 
@@ -1283,23 +1275,11 @@ pub fn name_unknown(rng: &mut Rng, call: Call, rows: &[Row], input: &mut [Row]) 
         }
         Call::Feed => input[at].symbol = unknown_symbol(rng, rows),
         Call::Result | Call::Lookup => input[at].id = unknown_trade(rng, rows),
-        Call::Batch => {
-            if let Some(call) = single(input[at].kind) {
-                name_unknown(rng, call, rows, &mut input[at..=at]);
-            }
-        }
     }
 }
 
-/// Every way that we know to break one field of an input record, with its name. Each is -103; so is, as
-/// an item of a batch, a record that breaks the rules of the order or the result that it is.
+/// Every way that we know to break one field of an input record, with its name. Each is -103.
 pub fn broken_records(rng: &mut Rng, call: Call, good: &Row) -> Vec<(&'static str, Row)> {
-    if call == Call::Batch {
-        return match single(good.kind) {
-            Some(call) => broken_records(rng, call, good),
-            None => vec![("another kind", *good)],
-        };
-    }
     let mut list: Vec<(&'static str, Row)> = Vec::new();
     let mut with = |name: &'static str, change: &dyn Fn(&mut Row)| {
         let mut row = *good;
@@ -1443,26 +1423,19 @@ pub fn case(rng: &mut Rng, call: Call, most: usize) -> Case {
     case_of(rng, call, records)
 }
 
-/// The same on a book of any size: most are small, one in a hundred has all 4,096 records. A result or a
-/// batch needs more rows than the others for all that it may do.
+/// The same on a book of any size: most are small, one in a hundred has all 4,096 records. A result
+/// needs more rows than the others for all that it may do.
 pub fn any_case(rng: &mut Rng, call: Call) -> Case {
-    let smallest = match call {
-        Call::Result | Call::Batch => 70,
-        _ => 46,
-    };
+    let smallest = if call == Call::Result { 70 } else { 46 };
     match rng.below(100) {
         0 => case_of(rng, call, MAX_RECORDS),
         1..=5 => case(rng, call, 400),
-        6..=20 if call == Call::Batch => case(rng, call, 200),
         size if size < smallest => case(rng, call, 64),
         _ => case(rng, call, 24),
     }
 }
 
 fn case_of(rng: &mut Rng, call: Call, records: usize) -> Case {
-    if call == Call::Batch {
-        return batches::case(rng, records);
-    }
     let mut case = unmoved_case(rng, call, records);
     if rng.chance(20) {
         case = to_a_small_gain(rng, case);
@@ -1496,9 +1469,6 @@ fn unmoved_case(rng: &mut Rng, call: Call, records: usize) -> Case {
 
 /// A random call on this sound book, which may be spoilt for it.
 pub fn case_on(rng: &mut Rng, call: Call, mut book: Vec<u8>) -> Case {
-    if call == Call::Batch {
-        return batches::on_book(rng, book, &[]);
-    }
     let rows = rows_of(&book);
     let mut input = good_input(rng, call, &rows);
     if rng.chance(7) {
@@ -1538,9 +1508,6 @@ pub fn case_on(rng: &mut Rng, call: Call, mut book: Vec<u8>) -> Case {
 /// Changes the book of a case that is accepted, so that a total lands on the last good value or one
 /// past it, or that the free places are just enough or one too few. Other cases stay as they are.
 pub fn to_the_edge(rng: &mut Rng, mut case: Case) -> Case {
-    if case.call == Call::Batch {
-        return batches::to_the_edge(rng, case);
-    }
     let mut after = case.book.clone();
     let mut answer = case.answer.clone();
     if case.call.run(&mut after, &case.input, &mut answer) != 0 {

@@ -2,7 +2,7 @@
 //! neither run meeting -104 or -105, gives every result the same answer and ends with the same rows,
 //! each as many times."
 
-use crate::calls::{Call, MAX_ITEMS, NO_ROOM, OUT_OF_RANGE};
+use crate::calls::{Call, NO_ROOM, OUT_OF_RANGE};
 use crate::gen;
 use crate::record::*;
 use crate::rng::Rng;
@@ -119,26 +119,6 @@ fn merge(rng: &mut Rng, groups: &[Vec<usize>]) -> Vec<usize> {
             None => return order,
         }
     }
-}
-
-/// A random cutting of a list into batches: their sizes, of 1 to 256 items each, as many in all as the
-/// list has. Now and then as few batches as may be, or every item on its own.
-pub fn cuts(rng: &mut Rng, length: usize) -> Vec<usize> {
-    let way = rng.below(10);
-    let mut sizes = Vec::new();
-    let mut left = length;
-    while left > 0 {
-        let most = left.min(MAX_ITEMS);
-        let size = match way {
-            0 => most,
-            1 => 1,
-            2..=4 => rng.between(1, most as u64) as usize,
-            _ => rng.between(1, most.min(6) as u64) as usize,
-        };
-        sizes.push(size);
-        left -= size;
-    }
-    sizes
 }
 
 /// Whether demand 3 leaves out a run that meets this status.

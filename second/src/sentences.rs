@@ -1,11 +1,10 @@
-//! The sentences of the rules one by one: S1 to S10 of a book, the field rules of an input, who may give
-//! an order, and what a batch is. For each there is a book, or an input, that breaks it and as little else as can be,
+//! The sentences of the rules one by one: S1 to S10 of a book, the field rules of an input, and who may
+//! give an order. For each there is a book, or an input, that breaks it and as little else as can be,
 //! and a neighbour that keeps it.
 //!
 //! Every book here is the one of "Figures to check against" with a few rows more, which the calls do
 //! not look at: a neighbour is accepted by every call.
 
-mod batches;
 mod executors;
 mod grid;
 mod inputs;
@@ -18,23 +17,19 @@ use crate::gen::Case;
 use crate::record::*;
 use crate::rng::Rng;
 use crate::sound::Rule;
-use inputs::usual_input;
+use inputs::usual_record;
 use rows::*;
 
 pub struct Item {
     pub label: String,
     pub book: Vec<Row>,
-    /// An input of a call, for the items about inputs, executors and batches. An item about books is for
-    /// all calls.
+    /// An input of a call, for the items about inputs and executors. An item about books is for all four
+    /// calls.
     pub input: Option<(Call, Vec<Row>)>,
-    /// The lengths of the input and of the answer area, where they are not those that the call wants.
-    pub lengths: Option<(usize, usize)>,
     /// The rules that the book breaks, in order: one, but where the item says why it is more.
     pub breaks: Vec<Rule>,
     /// The status that each call must give, or None if it may be neither -102 nor -103.
     pub refused: Option<i32>,
-    /// The statuses that a batch gives its items.
-    pub items: Vec<i32>,
 }
 
 impl Item {
@@ -43,20 +38,15 @@ impl Item {
         let inputs = match &self.input {
             Some((call, rows)) => vec![(*call, bytes_of(rows))],
             None => Call::ALL
-                .map(|call| (call, bytes_of(&usual_input(call))))
+                .map(|call| (call, bytes_of(&[usual_record(call)])))
                 .to_vec(),
         };
         let mut rng = Rng::of(0, 0, u64::from(number));
-        let case = |(call, mut input): (Call, Vec<u8>)| {
-            let usual = (input.len(), call.answer_length(input.len()));
-            let (length, answer) = self.lengths.unwrap_or(usual);
-            input.resize(length, call.kind());
-            Case {
-                call,
-                book: bytes_of(&self.book),
-                input,
-                answer: rng.bytes(answer),
-            }
+        let case = |(call, input): (Call, Vec<u8>)| Case {
+            call,
+            book: bytes_of(&self.book),
+            answer: rng.bytes(call.answer_length(input.len())),
+            input,
         };
         inputs.into_iter().map(case).collect()
     }
@@ -180,10 +170,8 @@ impl List {
             label,
             book,
             input: None,
-            lengths: None,
             breaks: breaks.to_vec(),
             refused,
-            items: Vec::new(),
         });
     }
 
@@ -203,13 +191,12 @@ impl List {
     }
 }
 
-/// Every sentence, in the order of the rules; those of the inputs, of executors and of batches come last.
+/// Every sentence, in the order of the rules; those of the inputs and of executors come last.
 pub fn all() -> Vec<Item> {
     let mut list = List { items: Vec::new() };
     grid::add(&mut list);
     rules::add(&mut list);
     inputs::add(&mut list);
     executors::add(&mut list);
-    batches::add(&mut list);
     list.items
 }

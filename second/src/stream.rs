@@ -1,8 +1,8 @@
 //! Cases in binary, for a program in another language.
 //!
-//! A case begins with six numbers of four bytes, little-endian: the kind of the call's input records
-//! (255 for a batch, whose records are of several kinds), the case's number, the lengths of the book, of
-//! the input and of the answer area, and the status that is expected. Then come the book, the input and the answer area before the call, and the book
+//! A case begins with six numbers of four bytes, little-endian: the kind of the call's input records,
+//! the case's number, the lengths of the book, of the input and of the answer area, and the status
+//! that is expected. Then come the book, the input and the answer area before the call, and the book
 //! and the answer area that are expected after it.
 
 use crate::gen::Case;

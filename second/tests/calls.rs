@@ -1,4 +1,4 @@
-//! The calls: statuses in their order, what refusals write, and single rules of 01.
+//! The four calls: statuses in their order, what refusals write, and single rules of 01.
 
 use second::calls::{self, Call};
 use second::features;
@@ -27,14 +27,11 @@ fn run(case: &Case) -> (i32, Vec<u8>, Vec<u8>) {
     } else {
         // "An accepted call leaves a sound book."
         assert_eq!(sound::check(&book), Ok(()));
-        match case.call {
-            Call::Lookup => assert_eq!(book, case.book),
-            // What its items answer is for tests/batches.rs.
-            Call::Batch => {}
-            _ => {
-                assert_eq!(answer[60..64], [0; 4]);
-                assert_eq!(answer[0], case.call.kind());
-            }
+        if case.call != Call::Lookup {
+            assert_eq!(answer[60..64], [0; 4]);
+            assert_eq!(answer[0], case.call.kind());
+        } else {
+            assert_eq!(book, case.book);
         }
         // A call that trusts the book does the same.
         let mut book2 = case.book.clone();
@@ -51,8 +48,7 @@ fn run(case: &Case) -> (i32, Vec<u8>, Vec<u8>) {
 fn every_status_is_reached() {
     for (seed, most, count) in [(20, 24, 4_000), (21, 100, 3_000)] {
         let mut rng = Rng::new(seed);
-        // Those of batches are for tests/batches.rs.
-        for (call, wanted) in &features::WANTED[..4] {
+        for (call, wanted) in features::WANTED {
             let mut counts: BTreeMap<i32, u32> = BTreeMap::new();
             let mut found: BTreeMap<&str, u32> = BTreeMap::new();
             for _ in 0..count {
@@ -260,14 +256,13 @@ fn full_books() {
     }
 }
 
-/// Every broken field of every record of an input is -103, before anything is looked up. (In a batch it
-/// is -103 for that item: tests/batches.rs.)
+/// Every broken field of every record of an input is -103, before anything is looked up.
 #[test]
 fn broken_inputs() {
     let mut rng = Rng::new(23);
     for _ in 0..40 {
         let book = gen::book(&mut rng, 40);
-        for call in Call::SINGLE {
+        for call in Call::ALL {
             let mut good = gen::good_input(&mut rng, call, &rows_of(&book));
             // Even where some record names nobody.
             gen::name_unknown(&mut rng, call, &rows_of(&book), &mut good);
@@ -293,7 +288,7 @@ fn lengths_of_areas() {
     let book = Figure::sell(120, false).book();
     for call in Call::ALL {
         let record = match call {
-            Call::Order | Call::Batch => Row {
+            Call::Order => Row {
                 kind: 33,
                 typ: TMB,
                 party: 1,
@@ -321,21 +316,11 @@ fn lengths_of_areas() {
             },
         };
         let bytes = record.write();
-        let few = 0..=22;
-        let many = [254, 255, 256, 257, 258].into_iter();
-        let counts: Vec<usize> = match call {
-            Call::Batch => few.chain(many).collect(),
-            _ => few.collect(),
-        };
-        for records in counts {
+        for records in 0..=22 {
             for more in [0, 1, 63] {
                 let mut input = bytes.repeat(records);
                 input.extend(&bytes[..more]);
-                let mut lengths = vec![0, 1, 63, 64, 65, 127, 128, 129, 192, 256, 2_560, 2_688];
-                if call == Call::Batch {
-                    lengths.extend([255 * 64, 256 * 64 - 1, 256 * 64, 256 * 64 + 1, 257 * 64]);
-                }
-                for answer in lengths {
+                for answer in [0, 1, 63, 64, 65, 127, 128, 129, 192, 256, 2_560, 2_688] {
                     let case = Case {
                         call,
                         book: book.clone(),
@@ -344,12 +329,10 @@ fn lengths_of_areas() {
                     };
                     let most = match call {
                         Call::Order | Call::Result => 1,
-                        Call::Feed | Call::Lookup => 20,
-                        Call::Batch => 256,
+                        _ => 20,
                     };
                     let long = match call {
                         Call::Lookup => 128 * records,
-                        Call::Batch => 64 * records,
                         _ => 64,
                     };
                     let good = (1..=most).contains(&records) && more == 0 && answer == long;

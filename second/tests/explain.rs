@@ -1,6 +1,6 @@
 //! What `book-check` says: every way to break a book is named by its rule, with the place of a row that breaks it.
 
-use second::calls::{single, Call};
+use second::calls::Call;
 use second::explain;
 use second::figures::Figure;
 use second::gen;
@@ -183,11 +183,7 @@ fn inputs() {
             rows[last] = record;
             let (accepted, said) = explain::input(call, &bytes_of(&rows));
             assert!(!accepted, "{name}");
-            let kind = match call {
-                Call::Batch => single(record.kind).unwrap_or(Call::Order).kind(),
-                _ => call.kind(),
-            };
-            let field = check_input(kind, &record.write()).unwrap_err();
+            let field = check_input(call.kind(), &record.write()).unwrap_err();
             let field = words::field_name(field);
             assert!(
                 said.starts_with(&format!("refused -103 {field} record {last}\n")),

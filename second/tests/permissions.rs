@@ -344,7 +344,7 @@ fn other_calls_do_not_ask() {
     }
 }
 
-/// S1 to S3 of kind 17, each alone: all calls refuse the book with -102, and the reason is the
+/// S1 to S3 of kind 17, each alone: all four calls refuse the book with -102, and the reason is the
 /// rule and the place.
 #[test]
 fn books_that_are_not_sound() {

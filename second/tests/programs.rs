@@ -37,34 +37,11 @@ fn vectors() {
         assert_eq!(book, decode(parts[6]).unwrap());
         seen.insert((call, status));
     }
-    for call in Call::SINGLE {
+    for call in Call::ALL {
         for status in call.statuses() {
             assert!(seen.contains(&(call, *status)), "{} {status}", call.name());
         }
     }
-}
-
-/// Batches come if they are asked for, and are small.
-#[test]
-fn vectors_of_batches() {
-    let program = env!("CARGO_BIN_EXE_vectors");
-    let mut seen = BTreeSet::new();
-    for line in lines(program, &["3", "40", "batch"]) {
-        let parts: Vec<&str> = line.split(' ').collect();
-        assert_eq!(parts[0], "batch");
-        let [mut book, input, mut answer] = [1, 2, 3].map(|at| decode(parts[at]).unwrap());
-        assert!(book.len() <= 26 * 64 && input.len() <= 5 * 64 && answer.len() <= 5 * 64);
-        let status = Call::Batch.run(&mut book, &input, &mut answer);
-        assert_eq!(status, parts[4].parse().unwrap());
-        assert_eq!(answer, decode(parts[5]).unwrap());
-        assert_eq!(book, decode(parts[6]).unwrap());
-        seen.insert(status);
-    }
-    assert!(Call::Batch
-        .statuses()
-        .iter()
-        .all(|status| seen.contains(status)));
-    assert!(lines(program, &["3", "4", "order", "batch"])[1].starts_with("batch "));
 }
 
 fn cases_of(arguments: &[&str]) -> Vec<u8> {
@@ -83,8 +60,7 @@ fn take<'a>(bytes: &mut &'a [u8], count: usize) -> &'a [u8] {
 
 #[test]
 fn cases() {
-    let names = Call::ALL.map(Call::name);
-    let all = cases_of(&[&["3", "1", "150"][..], &names].concat());
+    let all = cases_of(&["3", "1", "150", "order", "result", "feed", "lookup"]);
     let mut rest = &all[..];
     let mut seen = BTreeSet::new();
     for number in 1..=150 {

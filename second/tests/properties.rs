@@ -86,7 +86,7 @@ fn long_runs_of_mixed_calls() {
         };
         let mut book = gen::book_of(&mut rng, &plan);
         for _ in 0..60 {
-            let call = *rng.pick(&Call::SINGLE);
+            let call = *rng.pick(&Call::ALL);
             let before = rows_of(&book);
             let input = bytes_of(&gen::good_input(&mut rng, call, &before));
             let mut answer = vec![0xAA; call.answer_length(input.len())];
@@ -114,7 +114,7 @@ fn long_runs_of_mixed_calls() {
             }
         }
     }
-    for call in Call::SINGLE {
+    for call in Call::ALL {
         assert!(counts[&(call, 0)] > 500, "{counts:?}");
     }
 }

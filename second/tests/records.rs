@@ -1,6 +1,6 @@
 //! Records: round trips, places of fields, field rules.
 
-use second::calls::{single, Call};
+use second::calls::Call;
 use second::gen;
 use second::hex;
 use second::mutate::{used, PLACES};
@@ -258,18 +258,13 @@ fn inputs_keep_their_rules() {
         let rows = rows_of(&gen::book(&mut rng, 40));
         for call in Call::ALL {
             for row in gen::good_input(&mut rng, call, &rows) {
-                // An item of a batch keeps the rules of the call that it is of.
-                let own = match call {
-                    Call::Batch => single(row.kind).expect("an order or a result"),
-                    _ => call,
-                };
-                assert_eq!(check_input(own.kind(), &row.write()), Ok(()));
-                for other in Call::ALL.iter().filter(|other| **other != own) {
+                assert_eq!(check_input(call.kind(), &row.write()), Ok(()));
+                for other in Call::ALL.iter().filter(|other| **other != call) {
                     assert_eq!(check_input(other.kind(), &row.write()), Err(Field::Kind));
                 }
                 if round % 10 == 0 {
                     for (name, bad) in gen::broken_records(&mut rng, call, &row) {
-                        let found = check_input(own.kind(), &bad.write());
+                        let found = check_input(call.kind(), &bad.write());
                         assert!(found.is_err(), "{}: {name}", call.name());
                     }
                 }

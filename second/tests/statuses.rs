@@ -1,8 +1,7 @@
 //! "Status numbers, in order of checking": for every random case, all conditions of the table are
-//! asked, each on its own, and the first that holds must be the status given. So they are for every
-//! item of a batch.
+//! asked, each on its own, and the first that holds must be the status given.
 
-use second::calls::{Call, ITEM_STATUSES};
+use second::calls::Call;
 use second::gen::{self, Case};
 use second::record::*;
 use second::rng::Rng;
@@ -14,15 +13,15 @@ use std::collections::BTreeMap;
 fn expected(case: &Case) -> i32 {
     let call = case.call;
     let records = case.input.len() / RECORD;
-    let most = match call {
-        Call::Order | Call::Result => 1,
-        Call::Feed | Call::Lookup => 20,
-        Call::Batch => 256,
+    let most = if matches!(call, Call::Order | Call::Result) {
+        1
+    } else {
+        20
     };
-    let answer = match call {
-        Call::Lookup => 128 * records,
-        Call::Batch => 64 * records,
-        _ => 64,
+    let answer = if call == Call::Lookup {
+        128 * records
+    } else {
+        64
     };
     if case.input.len() != records * RECORD
         || records < 1
@@ -38,9 +37,6 @@ fn expected(case: &Case) -> i32 {
     if slow::check(&case.book).is_err() {
         return -102;
     }
-    if call == Call::Batch {
-        return 0;
-    }
     let bad = |record: &[u8]| check_input(call.kind(), record.try_into().unwrap()).is_err();
     if case.input.chunks(RECORD).any(bad) {
         return -103;
@@ -52,7 +48,6 @@ fn expected(case: &Case) -> i32 {
         Call::Result => result_status(&rows, &input[0]),
         Call::Feed => feed_status(&rows, &input),
         Call::Lookup => lookup_status(&rows, &input),
-        Call::Batch => unreachable!("what is left is for its items"),
     }
 }
 
@@ -286,52 +281,6 @@ fn each_status_is_given_exactly_when() {
             let count = counts.get(&(call, *status)).copied().unwrap_or(0);
             assert!(count >= 100, "{} {status}: {count}", call.name());
         }
-    }
-}
-
-/// The conditions for an item of a batch, on the rows as they stand when its turn comes (2026-03).
-fn expected_of_item(rows: &[Row], record: &[u8; RECORD]) -> i32 {
-    let item = Row::read(record);
-    let broken = check_input(item.kind, record).is_err();
-    match item.kind {
-        33 | 34 if broken => -103,
-        33 => order_status(rows, &item),
-        34 => result_status(rows, &item),
-        _ => -103,
-    }
-}
-
-#[test]
-fn each_status_of_an_item_is_given_exactly_when() {
-    let mut rng = Rng::new(42);
-    let mut counts: BTreeMap<i32, u32> = BTreeMap::new();
-    for most in [24, 60, 120] {
-        for _ in 0..2_000 {
-            let case = gen::case(&mut rng, Call::Batch, most);
-            let (mut book, mut answers) = (case.book.clone(), case.answer.clone());
-            if Call::Batch.run(&mut book, &case.input, &mut answers) != 0 {
-                continue;
-            }
-            let mut rows = rows_of(&case.book);
-            for (record, answer) in case.input.chunks(RECORD).zip(answers.chunks(RECORD)) {
-                let record = record.try_into().unwrap();
-                let status = Row::read(answer.try_into().unwrap()).n5 as i32;
-                assert_eq!(status, expected_of_item(&rows, record));
-                *counts.entry(status).or_default() += 1;
-                // A refused item, and an order that is rolled back, change nothing.
-                if status == 0 && (record[0] == 34 || record[3] & FLAG_ROLL_BACK == 0) {
-                    let call = [Call::Order, Call::Result][usize::from(record[0]) - 33];
-                    let mut now = bytes_of(&rows);
-                    assert_eq!(call.run_on_sound(&mut now, record, &mut [0; RECORD]), 0);
-                    rows = rows_of(&now);
-                }
-            }
-            assert_eq!(bytes_of(&rows), book);
-        }
-    }
-    for status in ITEM_STATUSES {
-        let count = counts.get(status).copied().unwrap_or(0);
-        assert!(count >= 100, "{status}: {counts:?}");
     }
 }
 

@@ -1,7 +1,7 @@
 // The calls that C can reach. Whatever bytes and lengths a call is given, it ends, and every byte that it leaves is
 // promised.
 ghost use Rattle.std.specs.Prelude.{◌≡◌, ◌<◌};
-ghost use Rattle.model.specs.Call.{Promise, batch_call, feed_call, lookup_call, order_call, result_call};
+ghost use Rattle.model.specs.Call.{Promise, feed_call, lookup_call, order_call, result_call};
 ghost use Rattle.model.specs.Rows.{places};
 ghost use Rattle.shell.specs.Shell.{call_of};
 
@@ -10,7 +10,7 @@ use kinds::limits::Ranges;
 use model::Status;
 use record::row::Grid;
 use reply::code;
-use shell::{Call, answer_length, long, looked, within};
+use shell::{Call, long, looked, within};
 use sound::area::{Large, Middle, Small};
 use sound::whole::whole;
 
@@ -30,7 +30,7 @@ fn called(call: Call, book: &mut [u8], input: &[u8], answer: &mut [u8]) -> i32
     ensures { Promise (call_of call book.old input.now answer.old) result book.new
         answer.new }
 {
-    if !(long(call, input.len()) & (answer.len() == answer_length(call, input.len()))) {
+    if !(long(call, input.len()) & (answer.len() == Grid::SIZE)) {
         return code(Status::BadLength);
     }
     let n = book.len() / Grid::SIZE;
@@ -72,15 +72,6 @@ pub extern "C" fn book_feed(book: &mut [u8], input: &[u8], answer: &mut [u8]) ->
         answer.new }
 {
     called(Call::Feed, book, input, answer)
-}
-
-// Orders and results in turn: a whole afternoon in one call.
-#[unsafe(no_mangle)]
-pub extern "C" fn book_batch(book: &mut [u8], input: &[u8], answer: &mut [u8]) -> i32
-    ensures { Promise (batch_call book.old input.now answer.old) result book.new
-        answer.new }
-{
-    called(Call::Batch, book, input, answer)
 }
 
 // Trade-Lookup by trade number.

@@ -11,9 +11,8 @@ use Rattle.std.specs.Int.{w32}
 use Rattle.laws.specs.Tests.{and_left, and_right}
 use Rattle.record.specs.Bytes.{bytes_of, le, low_first_holds}
 use Rattle.model.specs.Status.{is_done, number}
-use Rattle.model.specs.Batch.{most_items}
-use Rattle.model.specs.Call.{Call, Promise, Reply, a_batch, a_feed, aLookup, a_result, an_order, decide_of, fields_of}
-use Rattle.model.specs.Call.{lengths_of, most_inputs, refusal_area, replied, run, shell}
+use Rattle.model.specs.Call.{Call, Promise, Reply, a_feed, aLookup, a_result, an_order, decide_of, fields_of, lengths_of}
+use Rattle.model.specs.Call.{most_inputs, refusal_area, replied, run, shell}
 use Rattle.model.specs.Plan.{Outcome, pick, refused}
 use Rattle.model.specs.Rows.{most_records, record_size, rows, whole_records}
 use Rattle.model.specs.Sound.{sound}
@@ -37,7 +36,7 @@ module _ (n : ℕ) (s : Status) (long : record_size ≤ n) where
   unfolding refusal_area
   area_length = simp length-replicate (omega arith)
 
-  pub area_signed : to_z w32 (le 4 (refusal_area n s) 60) ≡ number s
+  area_signed : to_z w32 (le 4 (refusal_area n s) 60) ≡ number s
   unfolding refusal_area
   area_signed = ap (to_z w32) (low_first_holds 4 x (fits_32 s)) ∙ number_back (number s) s refl
 
@@ -77,10 +76,6 @@ answer_long a_feed input answer e =
 answer_long aLookup input answer e =
     let w = some_records most_inputs input (and_left (whole_records most_inputs input) (eqb answer (2 * input)) e) in
     let l = eqb-true answer (2 * input) (and_right (whole_records most_inputs input) (eqb answer (2 * input)) e) in
-    omega arith
-answer_long a_batch input answer e =
-    let w = some_records most_items input (and_left (whole_records most_items input) (eqb answer input) e) in
-    let l = eqb-true answer input (and_right (whole_records most_items input) (eqb answer input) e) in
     omega arith
 
 -- ---- what a call replies

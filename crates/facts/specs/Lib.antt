@@ -12,4 +12,3 @@ pub mod Checks
 pub mod Posted
 pub mod Result
 pub mod Feed
-pub mod Refusal

@@ -188,10 +188,8 @@ impl Ranges {
     // A balance, a settlement and a cash row's amount, either way from zero.
     pub const MONEY_MOST: u64 = 999_999_999_999_999;
 
-    // The most records of a book, of a feed or a lookup, and of a batch.
+    // The most records of a book, and of an input.
     pub const RECORDS: usize = 4_096;
 
     pub const INPUTS: usize = 20;
-
-    pub const ITEMS: usize = 256;
 }

@@ -1,8 +1,7 @@
 -- A list as parts of k elements; a part read, and a part written. Assumes nothing.
-use Rattle.std.specs.Prelude.{◌≡◌, take, drop, get_or, set}
-use Rattle.std.proofs.Math.Path.{refl, sym, ap}
-use Rattle.std.proofs.Common.{◌∙◌, add_comm, le_of_suc-le-suc, not-suc-le-zero, arith, length-append, length-take, drop-drop, take-add}
-use mathlib.Core.List.{List, [], ◌∷◌, ◌++◌, append_assoc, map}
+use Rattle.std.specs.Prelude.{◌≡◌, List, [], ◌∷◌, ◌++◌, map, take, drop, get_or, set}
+use Rattle.std.proofs.Math.Path.{refl, ap}
+use Rattle.std.proofs.Common.{◌∙◌, append_assoc, add_comm, le_of_suc-le-suc, not-suc-le-zero, arith, length-append, length-take, drop-drop, take-add}
 use Prim.Native.Nat.{ℕ, zero, suc, ◌+◌, ◌*◌, ◌≤◌, ◌<◌}
 use Rattle.std.proofs.Math.Nat.{zero-mul, suc-mul}
 use Rattle.std.proofs.Math.ListN.{length, length-drop}
@@ -22,30 +21,6 @@ module _ {A : Type 0} where
   unfolding chunk
   length_chunk k zero b = refl
   length_chunk k (suc n) b = ap suc (length_chunk k n (drop k b))
-
-  -- ---- lists of k elements each, joined and parted again
-  abbrev pub Parts : ℕ → List (List A) → Type 0
-  Parts k [] = Unit {0}
-  Parts k (x ∷ xs) = (length x ≡ k) × Parts k xs
-
-  pub length_joined : (k : ℕ) (xs : List (List A)) → Parts k xs → length (joined xs) ≡ length xs * k
-  unfolding joined
-  length_joined k [] h = sym (zero-mul k)
-  length_joined k (x ∷ xs) h =
-      let one = h.0 in
-      let ih = length_joined k xs h.1 in
-      rw (length-append, suc-mul) (omega arith)
-
-  pub chunk_joined : (k : ℕ) (xs : List (List A)) → Parts k xs → chunk k (length xs) (joined xs) ≡ xs
-  unfolding joined chunk
-  chunk_joined k [] h = refl
-  chunk_joined k (x ∷ xs) h =
-      rw (take_at x (joined xs) k h.0, drop_at x (joined xs) k h.0, chunk_joined k xs h.1)
-
-  pub joined_append : (xs ys : List (List A)) → joined (xs ++ ys) ≡ joined xs ++ joined ys
-  unfolding joined
-  joined_append [] ys = refl
-  joined_append (x ∷ xs) ys = rw (append_assoc, joined_append xs ys)
 
   -- part number i
   abbrev pub part : ℕ → ℕ → List A → List A

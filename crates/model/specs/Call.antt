@@ -1,4 +1,4 @@
--- The five calls on byte areas: the status, every byte of the answer and every byte of the book. "A refusal leaves
+-- The four calls on byte areas: the status, every byte of the answer and every byte of the book. "A refusal leaves
 -- the book as found; all answer bytes are zero but the status, signed, in bytes 60-63 (-100 excepted)." Assumes
 -- nothing.
 use Rattle.std.specs.Prelude.{◌≡◌, Bool, true, false, ◌&&◌, List, ◌++◌, ℕ, ◌*◌, ◌-◌, eqb, ℤ, length, replicate}
@@ -11,7 +11,6 @@ use Rattle.record.specs.declared.row.Row.{Row}
 use Rattle.rules.specs.Rules.{feed_input, lookup_input, order_input, result_input}
 use Rattle.model.specs.declared.Status.{Status}
 use Rattle.model.specs.declared.Status.TheVariants.{BadBook, BadInput, BadLength, Unsound}
-use Rattle.model.specs.Batch.{batch, most_items}
 use Rattle.model.specs.Feed.{feed}
 use Rattle.model.specs.Lookup.{lookup}
 use Rattle.model.specs.Order.{order}
@@ -64,9 +63,9 @@ shell lengths inputs decide b answer =
 abbrev pub most_inputs : ℕ
 most_inputs = 20
 
--- ---- the five calls, as data: each has its lengths, the rule of its input's fields, and its decision
+-- ---- the four calls, as data: each has its lengths, the rule of its input's fields, and its decision
 pub data Call : Type 0 where
-  an_order a_result a_feed aLookup a_batch : Call
+  an_order a_result a_feed aLookup : Call
 
 -- the lengths of the input and of the answer area are those that the call takes
 abbrev pub lengths_of : Call → ℕ → ℕ → Bool
@@ -74,22 +73,18 @@ lengths_of an_order input answer = eqb input record_size && eqb answer record_si
 lengths_of a_result input answer = eqb input record_size && eqb answer record_size
 lengths_of a_feed input answer = whole_records most_inputs input && eqb answer record_size
 lengths_of aLookup input answer = whole_records most_inputs input && eqb answer (2 * input)
-lengths_of a_batch input answer = whole_records most_items input && eqb answer input
 
--- a batch asks nothing of its records: each is refused by itself
 abbrev pub fields_of : Call → List ℕ → Bool
 fields_of an_order input = order_input (decode input)
 fields_of a_result input = result_input (decode input)
 fields_of a_feed input = every feed_input (rows input)
 fields_of aLookup input = every lookup_input (rows input)
-fields_of a_batch input = true
 
 abbrev pub decide_of : Call → List ℕ → List Row → Outcome
 decide_of an_order input rs = order rs (decode input)
 decide_of a_result input rs = result rs (decode input)
 decide_of a_feed input rs = feed rs (rows input)
 decide_of aLookup input rs = lookup rs (rows input)
-decide_of a_batch input rs = batch rs (rows input)
 
 -- a call on a book, an input and an answer area
 unfoldable pub run : Call → List ℕ → List ℕ → List ℕ → Reply
@@ -107,9 +102,6 @@ feed_call b input answer = run a_feed b input answer
 
 abbrev pub lookup_call : List ℕ → List ℕ → List ℕ → Reply
 lookup_call b input answer = run aLookup b input answer
-
-abbrev pub batch_call : List ℕ → List ℕ → List ℕ → Reply
-batch_call b input answer = run a_batch b input answer
 
 -- ---- what a call promises: the number returned, the book and the answer area as they are left
 pub record Promise (reply : Reply) (returned : ℤ) (book answer : List ℕ) : Type 0 where

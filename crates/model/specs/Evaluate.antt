@@ -18,10 +18,8 @@ use Rattle.rules.specs.Rules.{trade_shape, request_shape, trade_history_shape, l
 use Rattle.rules.specs.Rules.{lot_history_shape, settlement_shape, cash_shape, permission_shape, order_input_shape}
 use Rattle.rules.specs.Rules.{result_input_shape, feed_input_shape, lookup_input_shape}
 use Rattle.model.specs.Band.{band_answer}
-use Rattle.model.specs.Batch.{answered, answers, batch, item, refusal, rows_left}
 use Rattle.model.specs.Call as call
-use Rattle.model.specs.Call.{Reply, batch_call, feed_call, lookup_call, order_call, refusal_area, replied, result_call}
-use Rattle.model.specs.Call.{shell}
+use Rattle.model.specs.Call.{Reply, feed_call, lookup_call, order_call, refusal_area, replied, result_call, shell}
 use Rattle.model.specs.Feed as feed
 use Rattle.model.specs.Feed.{applied, submits, swept}
 use Rattle.model.specs.Lookup as lookup
@@ -101,10 +99,6 @@ feed_opened b i a = feed_call b i a
 unfoldable pub lookup_opened : List ℕ → List ℕ → List ℕ → Reply
 unfolding shell_opened looked lookup.checks lookup.lookup call.run
 lookup_opened b i a = lookup_call b i a
-
-unfoldable pub batch_opened : List ℕ → List ℕ → List ℕ → Reply
-unfolding order_opened result_opened batch item refusal answered answers rows_left
-batch_opened b i a = batch_call b i a
 
 unfoldable pub tally_opened : List Row → List (List ℕ)
 unfolding lists_opened tallied tally

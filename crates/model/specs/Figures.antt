@@ -1,17 +1,15 @@
 -- "Figures to check against": one table of cases, and one claim about the rules, which the checker computes. Each
 -- case goes through the call on its byte areas, so its book is found sound on the way. Assumes nothing.
-use Rattle.std.specs.Prelude.{◌≡◌, refl, List, [], ◌∷◌, ◌++◌, map, ℕ, ◌+◌, ◌*◌, ℤ, pos, neg_ℤ, length, replicate}
-use Rattle.std.specs.Int.{w32, w64}
+use Rattle.std.specs.Prelude.{◌≡◌, refl, List, [], ◌∷◌, map, ℕ, ℤ, pos, neg_ℤ, replicate}
+use Rattle.std.specs.Int.{w64}
 use Rattle.std.proofs.Common.{to_z}
 use Rattle.laws.specs.Search.{count}
 use Rattle.record.specs.Bytes.{le}
-use Rattle.record.specs.Codes.{kind_feed, kind_free, kind_lot, kind_request, kind_summary, tms}
+use Rattle.record.specs.Codes.{kind_lot, kind_request, kind_summary, tms}
 use Rattle.record.specs.Grid.{encode}
 use Rattle.record.specs.declared.row.Row.{Row}
-use Rattle.rules.specs.Ranges.{id, kind}
-use Rattle.model.specs.Call.{Reply, batch_call, feed_call, order_call, result_call}
-use Rattle.model.specs.Edit.{◌≔◌, changed}
-use Rattle.model.specs.Evaluate.{batch_opened, feed_opened, order_opened, result_opened, tally_opened}
+use Rattle.model.specs.Call.{Reply, feed_call, order_call, result_call}
+use Rattle.model.specs.Evaluate.{feed_opened, order_opened, result_opened, tally_opened}
 use Rattle.model.specs.Names.{a_lot, a_summary, a_trade}
 use Rattle.model.specs.Rows.{bytes, found, is, rows}
 use Rattle.model.specs.Sample.{abc, buying, by_executor, eight, entry_at, gaining, gaining_by, last_at, order_for}
@@ -23,7 +21,6 @@ pub data Case : Type 0 where
   a_result : List Row → Row → Case
   a_feed : List Row → Row → Case
   an_order : List Row → Row → Case
-  a_batch : List Row → List Row → Case
 
 -- an answer area that was not clean
 abbrev area : List ℕ
@@ -58,23 +55,11 @@ after_feed r =
 abbrev after_order : Reply → List ℤ
 after_order r = number r.status ∷ pos (found (a_trade (le 8 r.answer 8)) (rows r.book)).m1 ∷ []
 
--- status, and of each of five items its status and what stands in bytes 40-47: a result's balance, an order's bought
--- value; then the shares of lot 13, and the free places
-abbrev of_item : Reply → ℕ → List ℤ
-of_item r k = to_z w32 (le 4 r.answer (k * 64 + 60)) ∷ to_z w64 (le 8 r.answer (k * 64 + 40)) ∷ []
-
-abbrev after_batch : Reply → List ℤ
-after_batch r =
-    let rs = rows r.book in
-    number r.status ∷ of_item r 0 ++ of_item r 1 ++ of_item r 2 ++ of_item r 3 ++ of_item r 4
-    ++ to_z w64 (found (a_lot 13) rs).m1 ∷ pos (count (is kind_free) rs) ∷ []
-
 unfoldable pub seen : Case → List ℤ
-unfolding result_opened feed_opened order_opened batch_opened
+unfolding result_opened feed_opened order_opened
 seen (a_result rs input) = after_result (result_call (bytes rs) (encode input) area)
 seen (a_feed rs input) = after_feed (feed_call (bytes rs) (encode input) area)
 seen (an_order rs input) = after_order (order_call (bytes rs) (encode input) area)
-seen (a_batch rs is) = after_batch (batch_call (bytes rs) (bytes is) (replicate (length is * 64) 7))
 
 pub record Figure : Type 0 where
   pub case : Case
@@ -84,18 +69,11 @@ infix 50 ◌gives◌
 abbrev ◌gives◌ : Case → List ℤ → Figure
 c gives o = record { case = c; outcome = o }
 
--- the result of P1, an order, its own result, the result of P1 again, and the order as a record of kind 35
-abbrev afternoon : List Row
-afternoon =
-    result_at 3_000 ∷ order_for abc 1 ∷ changed (result_at 2_000) (id ≔ 13 ∷ []) ∷ result_at 3_000
-    ∷ changed (order_for abc 1) (kind ≔ kind_feed ∷ []) ∷ []
-
 abbrev minus : ℕ → ℤ
 minus n = neg_ℤ (pos n)
 
 -- P1 to P9; beside P7 a row on rates of zero, and an order with a gain of 2 (2026-02); beside P9 orders on the book of
--- P1, with a permission for executor 7: by 7, by 8 and by the owner (2026-01); the two rows on free places; and two
--- batches, in the second of which the third item finds too few places (2026-03)
+-- P1, with a permission for executor 7: by 7, by 8 and by the owner (2026-01); the two rows on free places
 abbrev pub table : List Figure
 table =
     (a_result (selling 1 120 6) (result_at 3_000) gives
@@ -134,12 +112,6 @@ table =
     ∷ []))
     ∷ (a_result (selling 1 120 4) (result_at 3_000) gives
     (minus 105 ∷ pos 0 ∷ pos 0 ∷ pos 0 ∷ pos 0 ∷ pos 100 ∷ pos 50 ∷ pos 0 ∷ pos 150 ∷ pos 2 ∷ pos 1 ∷ []))
-    ∷ (a_batch (selling 1 120 11) afternoon gives
-    (pos 0 ∷ pos 0 ∷ pos 1_335_700 ∷ pos 0 ∷ pos 0 ∷ pos 0 ∷ pos 1_333_190 ∷ minus 812 ∷ pos 0 ∷ minus 103 ∷ pos 0
-    ∷ pos 1 ∷ pos 0 ∷ []))
-    ∷ (a_batch (selling 1 120 10) afternoon gives
-    (pos 0 ∷ pos 0 ∷ pos 1_335_700 ∷ pos 0 ∷ pos 0 ∷ minus 105 ∷ pos 0 ∷ minus 812 ∷ pos 0 ∷ minus 103 ∷ pos 0
-    ∷ pos 0 ∷ pos 4 ∷ []))
     ∷ []
 
 -- the rules give the figures

@@ -15,7 +15,6 @@ pub mod Result
 pub mod Order
 pub mod Feed
 pub mod Lookup
-pub mod Batch
 pub mod Call
 pub mod Unposted
 pub mod Tally

@@ -1,13 +1,12 @@
 -- The bytes of rows that fit the grid are read as those rows again, and rows put in the places of others are as many.
 -- Assumes nothing.
-use Rattle.std.specs.Prelude.{◌≡◌, refl, Bool, true, false, ◌&&◌, List, [], ◌∷◌, ◌++◌, map, ℕ, zero, suc, ◌*◌, ◌/◌, ◌≤◌, leb, length, get_or}
-use Rattle.std.proofs.Common.{ap, ap₂, ◌∙◌, arith, leb-true}
+use Rattle.std.specs.Prelude.{◌≡◌, refl, Bool, true, false, ◌&&◌, List, [], ◌∷◌, map, ℕ, zero, suc, ◌*◌, ◌/◌, ◌≤◌, leb, length, get_or}
+use Rattle.std.proofs.Common.{ap₂, ◌∙◌, suc-mul, arith, length-append, take_at, drop_at, leb-true}
 use Rattle.std.proofs.lemmas.Bool.{false≢true}
 use mathlib.Core.List.Memᴰ
-use Rattle.std.proofs.lemmas.List.{map-append, length-map}
 use Rattle.laws.specs.All.{All, all_more, all_none}
 use Rattle.laws.specs.Change.{put, puts}
-use Rattle.laws.specs.Chunk.{Parts, chunk_joined, joined, joined_append, length_joined}
+use Rattle.laws.specs.Chunk.{chunk, joined}
 use Rattle.laws.specs.Search.{every}
 use Rattle.laws.specs.Tests.{and_left, and_right}
 use Rattle.record.specs.Grid.{Sized, decode, decode_encode, encode, length_encode}
@@ -122,35 +121,31 @@ unfolding fits
 fits_sized r e = at_kind rules each_sized r.kind r e
 
 -- ---- bytes of rows
-encoded : (rs : List Row) → Parts record_size (map encode rs)
-encoded [] = tt
-encoded (r ∷ rs) = (length_encode r, encoded rs)
-
 pub length_bytes : (rs : List Row) → length (bytes rs) ≡ length rs * record_size
-unfolding bytes
-length_bytes rs =
-    length_joined record_size (map encode rs) (encoded rs) ∙ ap (λ (n : ℕ). n * record_size) (length-map rs encode)
+unfolding bytes joined
+length_bytes [] = refl
+length_bytes (r ∷ rs) =
+    let one = length_encode r in
+    let ih = length_bytes rs in
+    rw (length-append, suc-mul) (omega arith)
 
-pub bytes_append : (rs ss : List Row) → bytes (rs ++ ss) ≡ bytes rs ++ bytes ss
-unfolding bytes
-bytes_append rs ss = ap joined (map-append encode rs ss) ∙ joined_append (map encode rs) (map encode ss)
-
-each_again : (rs : List Row) → s1 rs ≡ true → map decode (map encode rs) ≡ rs
-unfolding s1 every
-each_again [] e = refl
-each_again (r ∷ rs) e =
-    ap₂ (λ (x : Row) (l : List Row). x ∷ l)
+parts_again : (rs : List Row) → s1 rs ≡ true → map decode (chunk record_size (length rs) (bytes rs)) ≡ rs
+unfolding bytes joined chunk s1 every
+parts_again [] e = refl
+parts_again (r ∷ rs) e =
+    let rest = bytes rs in
+    rw (take_at (encode r) rest 64 (length_encode r), drop_at (encode r) rest 64 (length_encode r))
+    (ap₂ (λ (x : Row) (l : List Row). x ∷ l)
     (decode_encode r (fits_sized r (and_left (fits r) (every fits rs) e)))
-    (each_again rs (and_right (fits r) (every fits rs) e))
+    (parts_again rs (and_right (fits r) (every fits rs) e)))
 
 -- rows that fit are read again
 pub rows_bytes : (rs : List Row) → s1 rs ≡ true → rows (bytes rs) ≡ rs
-unfolding rows bytes
+unfolding rows
 rows_bytes rs e =
     let n = length_bytes rs in
-    let m = length-map rs encode in
-    let k : length (bytes rs) / record_size ≡ length (map encode rs) = omega arith in
-    rw (k, chunk_joined record_size (map encode rs) (encoded rs)) (each_again rs e)
+    let k : length (bytes rs) / record_size ≡ length rs = omega arith in
+    rw k (parts_again rs e)
 
 -- ---- as many rows
 pub put_length : (o n : Row) (l : List Row) → length (put same_row o n l) ≡ length l

@@ -3,29 +3,30 @@
 -- roll back do, accepted or not.) Assumes nothing.
 use Rattle.std.specs.Prelude.{◌≡◌, Bool, ◌&&◌, List, ℕ, ◌*◌, ◌/◌, ◌%◌, ◌≤◌, eqb, leb, length}
 use Rattle.std.proofs.Math.Path.{refl}
-use Rattle.std.proofs.Common.{sym, ap, ◌∙◌, arith, eqb-true, leb-true}
+use Rattle.std.proofs.Common.{ap, ◌∙◌, arith, eqb-true, leb-true}
 use Rattle.std.proofs.Math.Bool.{true, false}
 use Rattle.std.proofs.lemmas.Bool.{false≢true}
 use Rattle.laws.specs.Tests.{and_left, and_right}
 use Rattle.record.specs.Grid.{decode}
 use Rattle.record.specs.declared.row.Row.{Row}
 use Rattle.model.specs.Status.{is_done}
-use Rattle.model.specs.Batch.{batch, item}
-use Rattle.model.specs.Call.{Call, Reply, a_batch, a_feed, aLookup, a_result, an_order, choose, decide_of}
-use Rattle.model.specs.Call.{either, fields_of, lengths_of, replied, run, shell}
+use Rattle.model.specs.Call.{Call, Reply, a_feed, aLookup, a_result, an_order, choose, decide_of, fields_of, lengths_of}
+use Rattle.model.specs.Call.{replied, run, shell}
 use Rattle.model.specs.Plan.{Outcome, pick, refused}
+use Rattle.model.specs.Result.{result}
 use Rattle.model.specs.Rows.{bytes, most_records, record_size, rows, whole_records}
 use Rattle.model.specs.Sound.{sound}
 use Rattle.model.specs.Unposted.{lookup_rows}
 use Rattle.model.specs.declared.Status.TheVariants.{BadBook, BadInput, BadLength, Unsound}
 use Rattle.facts.specs.Rows.{length_rows}
 use Rattle.facts.specs.Found.{sound_s1}
-use Rattle.preserved.specs.Bytes.{length_bytes, rows_bytes}
+use Rattle.facts.specs.Posted.{writes}
+use Rattle.preserved.specs.Bytes.{length_bytes, puts_length, rows_bytes}
 use Rattle.preserved.specs.FeedDone.{feed_length}
 use Rattle.preserved.specs.FeedSound.{feed_sound}
-use Rattle.preserved.specs.Items.{Kept, item_kept, items_kept}
 use Rattle.preserved.specs.OrderSound.{order_length, order_sound}
-use Rattle.preserved.specs.ResultSound.{result_length, result_sound}
+use Rattle.preserved.specs.ResultBase.{accepted_all, posting_of, result_writes}
+use Rattle.preserved.specs.ResultSound.{result_sound}
 
 -- a book: 1 to 4,096 whole records, and its rows are sound
 pub record SoundBytes (book : List ℕ) : Type 0 where
@@ -39,30 +40,30 @@ Leaves inputs rs o =
     → (sound o.rows ≡ true) × (length o.rows ≡ length rs)
 
 -- ---- the shell of every call
--- a length is told by the number of whole records
-pub whole_length : (most n : ℕ) → whole_records most n ≡ true
-    → (n / record_size * record_size ≡ n) × (n / record_size ≤ most)
+-- the book's length is told by its rows
+whole_length : (n : ℕ) → whole_records most_records n ≡ true
+    → (n / record_size * record_size ≡ n) × (n / record_size ≤ most_records)
 unfolding whole_records
-whole_length most n e =
-    let few = leb-true n (most * record_size) (and_right (leb 64 n && eqb (n % 64) 0) (leb n (most * 64)) e) in
-    let some = and_left (leb 64 n && eqb (n % 64) 0) (leb n (most * 64)) e in
+whole_length n e =
+    let most = leb-true n (most_records * record_size) (and_right (leb 64 n && eqb (n % 64) 0) (leb n (4_096 * 64)) e) in
+    let some = and_left (leb 64 n && eqb (n % 64) 0) (leb n (4_096 * 64)) e in
     let even = eqb-true (n % 64) 0 (and_right (leb 64 n) (eqb (n % 64) 0) some) in
     (omega arith, omega arith)
 
--- what is written are the bytes of the rows that are left
-written : (b : List ℕ) (rs : List Row) → whole_records most_records (length b) ≡ true → sound rs ≡ true
-    → length rs ≡ length (rows b) → SoundBytes (bytes rs)
-written b rs w good many =
-    let n = (whole_length most_records (length b) w).0 in
-    let k = length_bytes rs in
-    let l = length_rows b in
-    let same : length (bytes rs) ≡ length b = omega arith in
-    record {
-      whole = ap (whole_records most_records) same ∙ w;
-      right = ap sound (rows_bytes rs (sound_s1 rs good)) ∙ good;
-    }
-
 module _ (b answer : List ℕ) where
+  -- what is written are the bytes of the rows that are left
+  written : (rs : List Row) → whole_records most_records (length b) ≡ true → sound rs ≡ true → length rs ≡ length (rows b)
+      → SoundBytes (bytes rs)
+  written rs w good many =
+      let n = (whole_length (length b) w).0 in
+      let k = length_bytes rs in
+      let l = length_rows b in
+      let same : length (bytes rs) ≡ length b = omega arith in
+      record {
+        whole = ap (whole_records most_records) same ∙ w;
+        right = ap sound (rows_bytes rs (sound_s1 rs good)) ∙ good;
+      }
+
   -- the reply by what the shell tests: the lengths, the book's length, its soundness and the input's fields
   module _ (decide : List Row → Outcome) where
     abbrev outcome : Bool → Bool → Bool → Outcome
@@ -88,15 +89,19 @@ module _ (b answer : List ℕ) where
           go true true false i ew es ei d = absurd (false≢true d)
           go true true true false ew es ei d = absurd (false≢true d)
           go true true true true ew es ei d =
-              let few = (whole_length most_records (length b) ew).1 in
+              let few = (whole_length (length b) ew).1 in
               let n = length_rows b in
               let left = leaves (omega arith) es ei d in
-              rw d (written b (decide (rows b)).rows ew left.0 left.1)
+              rw d (written (decide (rows b)).rows ew left.0 left.1)
 
 -- ---- the calls
+result_length : (rs : List Row) (input : Row) → sound rs ≡ true → is_done (result rs input).status ≡ true
+    → length (result rs input).rows ≡ length rs
+result_length rs input good done =
+    ap length (result_writes rs input good (accepted_all rs input done)) ∙ puts_length (writes (posting_of rs input)) rs
+
 -- each decision that is accepted leaves sound rows
 decision_leaves : (c : Call) (b input : List ℕ) → Leaves (fields_of c input) (rows b) (decide_of c input (rows b))
-unfolding batch
 decision_leaves an_order b input few good right done =
     (order_sound (rows b) (decode input) good right done, order_length (rows b) (decode input) done)
 decision_leaves a_result b input few good right done =
@@ -106,7 +111,6 @@ decision_leaves a_feed b input few good right done =
 decision_leaves aLookup b input few good right done =
     let same = lookup_rows (rows b) (rows input) in
     (ap sound same ∙ good, ap length same)
-decision_leaves a_batch b input few good right done = items_kept (rows b) (rows input) few good
 
 -- "An accepted call leaves a sound book."
 pub call_leaves_sound : (c : Call) (b input answer : List ℕ) → is_done (run c b input answer).status ≡ true
@@ -121,20 +125,3 @@ pub uncalled : (c : Call) (b input answer : List ℕ) → lengths_of c (length i
     → run c b input answer ≡ record { status = BadLength; answer = answer; book = b }
 unfolding run shell
 uncalled c b input answer e = rw e
-
--- ---- an item of a batch, on the bytes of a sound book
--- a decision that keeps the rows sound, and leaves them where it refuses, keeps the book so
-kept_bytes : (b : List ℕ) (o : Outcome) → SoundBytes b → Kept (rows b) o → (t : Bool) → is_done o.status ≡ t
-    → SoundBytes (either t (bytes o.rows) b) × (rows (either t (bytes o.rows) b) ≡ o.rows)
-kept_bytes b o s k true e =
-    (written b o.rows s.whole k.right k.long, rows_bytes o.rows (sound_s1 o.rows k.right))
-kept_bytes b o s k false e = (s, sym (k.as_found e))
-
-pub item_bytes : (b : List ℕ) (i : Row) → SoundBytes b
-    → SoundBytes (either (is_done (item (rows b) i).status) (bytes (item (rows b) i).rows) b)
-    × (rows (either (is_done (item (rows b) i).status) (bytes (item (rows b) i).rows) b) ≡ (item (rows b) i).rows)
-item_bytes b i s =
-    let few = (whole_length most_records (length b) s.whole).1 in
-    let n = length_rows b in
-    kept_bytes b (item (rows b) i) s (item_kept (rows b) i (omega arith) s.right) (is_done (item (rows b) i).status)
-    refl

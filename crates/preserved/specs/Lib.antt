@@ -43,5 +43,4 @@ pub mod OrderTrades
 pub mod OrderFound
 pub mod OrderFits
 pub mod OrderSound
-pub mod Items
 pub mod Calls

@@ -1,6 +1,5 @@
--- An accepted result leaves a sound book, S1 to S10 together, of as many rows. Assumes nothing.
+-- An accepted result leaves a sound book: S1 to S10 together. Assumes nothing.
 use Rattle.std.specs.Prelude.{◌≡◌, true, List, ◌≤◌, length}
-use Rattle.std.proofs.Common.{ap, ◌∙◌}
 use Rattle.record.specs.declared.row.Row.{Row}
 use Rattle.rules.specs.Rules.{result_input}
 use Rattle.model.specs.Status.{is_done}
@@ -8,9 +7,7 @@ use Rattle.model.specs.Result.{result}
 use Rattle.model.specs.Rows.{most_records}
 use Rattle.model.specs.Sound.{sound}
 use Rattle.model.specs.SoundMeans.{means_sound}
-use Rattle.facts.specs.Posted.{writes}
-use Rattle.preserved.specs.Bytes.{puts_length}
-use Rattle.preserved.specs.ResultBase.{accepted_all, posting_of, result_writes}
+use Rattle.preserved.specs.ResultBase.{accepted_all, result_writes}
 use Rattle.preserved.specs.ResultFitsWhole.{s1_result, s8_result}
 use Rattle.preserved.specs.ResultLeft.{result_leaves, s10_result, s2_result, s3_result, s4_result, s5_result}
 use Rattle.preserved.specs.ResultLeft.{s6_result, s7_result, s9_result}
@@ -33,9 +30,3 @@ result_sound rs input few good right done =
       s9 = s9_result rs input good ok;
       s10 = s10_result rs input good ok;
     }))
-
--- as many as there were
-pub result_length : (rs : List Row) (input : Row) → sound rs ≡ true → is_done (result rs input).status ≡ true
-    → length (result rs input).rows ≡ length rs
-result_length rs input good done =
-    ap length (result_writes rs input good (accepted_all rs input done)) ∙ puts_length (writes (posting_of rs input)) rs

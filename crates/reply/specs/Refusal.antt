@@ -1,15 +1,22 @@
 -- The answer of a refusal: the area cleared, and the status in bytes 60-63. Assumes nothing.
-use Rattle.std.specs.Prelude.{◌≡◌, Bool, true, false, List, ℕ, zero, suc, ◌+◌, ◌-◌, ◌/◌, ◌≤◌, ◌<◌, length, drop, replicate, set, take}
-use Rattle.std.proofs.Common.{sym, ap, ◌∙◌, add-one, arith, take_all, take-suc-set}
+use Rattle.std.specs.Prelude.{◌≡◌, refl, Bool, true, false, List, [], ◌∷◌, ◌++◌, ℕ, zero, suc, ◌+◌, ◌-◌, ◌/◌, ◌≤◌, ◌<◌, length, drop, replicate, set, take}
+use Rattle.std.proofs.Common.{sym, ap, ◌∙◌, add-one, arith, take_all, take-suc-set, of_z}
 use Rattle.std.proofs.Math.Nat.{suc-sub-suc, sub-zero, zero-sub}
 use Rattle.std.proofs.lemmas.List.{length-replicate, replicate-append-replicate}
+use Rattle.std.specs.Int.{w32}
+use Rattle.record.specs.Bytes.{bytes_of}
+use Rattle.record.specs.Grid.{encode}
 use Rattle.record.specs.declared.row.Row.{Row}
-use Rattle.model.specs.Status.{is_done}
-use Rattle.model.specs.Batch.{refusal}
+use Rattle.rules.specs.Ranges.{n5}
+use Rattle.model.specs.Status.{is_done, number}
 use Rattle.model.specs.Call.{either, refusal_area}
+use Rattle.model.specs.Edit.{◌≔◌, bits32, new}
 use Rattle.model.specs.declared.Status.{Status}
-use Rattle.facts.specs.Refusal.{encode_refusal}
 use Rattle.places.specs.Rows.{put_at, put_at_in}
+
+-- the row that has the status and nothing else
+unfoldable pub refusal : Status → Row
+refusal s = new (n5 ≔ bits32 (number s) ∷ [])
 
 -- ---- the area cleared
 pub clear_step : (a : List ℕ) (i : ℕ) → i < length a → take i a ≡ replicate i 0
@@ -27,6 +34,10 @@ drop_zeros : (k n : ℕ) → drop {A = ℕ} k (replicate n 0) ≡ replicate (n -
 drop_zeros zero n = rw sub-zero
 drop_zeros (suc k) zero = rw zero-sub
 drop_zeros (suc k) (suc n) = rw suc-sub-suc (drop_zeros k n)
+
+encode_refusal : (s : Status) → encode (refusal s) ≡ replicate 60 0 ++ bytes_of 4 (of_z w32 (number s))
+unfolding encode refusal
+encode_refusal s = refl
 
 pub refusal_put : {a b : List ℕ} {r : Row} (n : ℕ) (s : Status) → 64 ≤ n → a ≡ replicate n 0 → r ≡ refusal s
     → b ≡ put_at a 0 r

@@ -1,11 +1,11 @@
 // How a call ends: the first check that fails, the number of its status, and the answer of a refusal.
 ghost use Rattle.std.specs.Prelude.{◌≡◌, Bool, not, ◌≤◌, length, replicate};
 ghost use Rattle.model.specs.Band.{no_band, zero_rate};
-ghost use Rattle.model.specs.Batch.{refusal};
 ghost use Rattle.model.specs.Status.{is_done, number};
 ghost use Rattle.model.specs.Call.{either, refusal_area};
 ghost use Rattle.model.specs.Rows.{record_size};
 ghost use Rattle.model.specs.Plan.{also};
+ghost use Rattle.reply.specs.Refusal.{refusal};
 
 use directory::totals::Totals;
 use model::{BandAnswer, Status};

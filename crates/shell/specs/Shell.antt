@@ -9,7 +9,6 @@ use Rattle.laws.specs.Tests.{and_both, and_left}
 use Rattle.record.specs.Bytes.{Bytes}
 use Rattle.record.specs.declared.row.Row.{Row}
 use Rattle.rules.specs.Rules.{lookup_input}
-use Rattle.model.specs.Batch.{most_items}
 use Rattle.model.specs.Call as calls
 use Rattle.model.specs.Status.{is_done, number}
 use Rattle.model.specs.Call.{Promise, Reply, either, most_inputs, refusal_area, replied, run, shell}
@@ -23,7 +22,7 @@ use Rattle.model.specs.Unposted.{lookup_keeps}
 use Rattle.reply.specs.Left.{answer_left, book_left, left_refused, promised}
 use Rattle.opening.specs.Opening.{opening}
 use Rattle.shell.specs.declared.Call.{Call}
-use Rattle.shell.specs.declared.Call.TheVariants.{Batch, Feed, Order, Result}
+use Rattle.shell.specs.declared.Call.TheVariants.{Feed, Order, Result}
 
 -- ---- the reply
 module _ {lengths inputs x : Bool} {s : Status} (decide : List Row → Outcome) (b a : List ℕ) (e : lengths ≡ true)
@@ -58,25 +57,16 @@ module _ {lengths inputs x : Bool} {s : Status} (decide : List Row → Outcome) 
 pub long_both : {x : Bool} (a : List ℕ) {n : ℕ} → x ≡ true → length a ≡ n → (x && eqb (length a) n) ≡ true
 long_both {x} a {n} e l = and_both x (eqb (length a) n) e (eq-eqb (length a) n l)
 
--- ---- the calls that change a book: each is one of the model's
+-- ---- the calls that change a book: each is one of the model's, and answers one record
 abbrev ruled : Call → calls.Call
 ruled Order = calls.an_order
 ruled Result = calls.a_result
 ruled Feed = calls.a_feed
-ruled Batch = calls.a_batch
 
 abbrev pub long_of : Call → ℕ → Bool
 long_of Order n = eqb n record_size
 long_of Result n = eqb n record_size
 long_of Feed n = whole_records most_inputs n
-long_of Batch n = whole_records most_items n
-
--- the answer to an input of n bytes: one record, or as many as there are items
-abbrev pub answer_length : Call → ℕ → ℕ
-answer_length Order n = record_size
-answer_length Result n = record_size
-answer_length Feed n = record_size
-answer_length Batch n = n
 
 abbrev pub fields_of : Call → List ℕ → Bool
 fields_of call input = calls.fields_of (ruled call) input
@@ -86,23 +76,15 @@ decide_of call input rs = calls.decide_of (ruled call) input rs
 
 abbrev pub call_of : Call → List ℕ → List ℕ → List ℕ → Reply
 call_of call b input a =
-    shell (long_of call (length input) && eqb (length a) (answer_length call (length input))) (fields_of call input)
-    (decide_of call input) b a
+    shell (long_of call (length input) && eqb (length a) record_size) (fields_of call input) (decide_of call input) b a
 
--- ---- an answer has a record at least
+-- ---- lookup
 some : (most n : ℕ) → whole_records most n ≡ true → 64 ≤ n
 unfolding whole_records
 some most n e =
     let two = and_left (leb 64 n && eqb (n % 64) 0) (leb n (most * 64)) e in
     leb-true 64 n (and_left (leb 64 n) (eqb (n % 64) 0) two)
 
-pub answer_long : (call : Call) (n : ℕ) → long_of call n ≡ true → record_size ≤ answer_length call n
-answer_long Order n e = omega arith
-answer_long Result n e = omega arith
-answer_long Feed n e = omega arith
-answer_long Batch n e = some _ n e
-
--- ---- lookup
 pub lookup_long : (input a : List ℕ)
     → (whole_records most_inputs (length input) ≡ true) × (length a ≡ 2 * length input)
     → ((whole_records most_inputs (length input) && eqb (length a) (2 * length input)) ≡ true)

@@ -1,12 +1,11 @@
 // The shell of a call whose lengths are right: the checks, the inner call, and how it ends.
 ghost use Rattle.std.specs.Prelude.{◌≡◌, true, ◌*◌, length};
 ghost use Rattle.model.specs.Call.{Promise, lookup_call, most_inputs};
-ghost use Rattle.model.specs.Rows.{rows, whole_records};
+ghost use Rattle.model.specs.Rows.{record_size, rows, whole_records};
 ghost use Rattle.reply.specs.Left.{answer_left, book_left};
 ghost use Rattle.opening.specs.Opening.{Opened, Room};
-ghost use Rattle.shell.specs.Shell.{answer_length, call_of, decide_of, fields_of, long_of};
+ghost use Rattle.shell.specs.Shell.{call_of, decide_of, fields_of, long_of};
 
-use batch::batch;
 use directory::totals::Totals;
 use feed::feed;
 use inputs::{all_feed, all_lookup, is_order, is_result};
@@ -25,7 +24,6 @@ pub enum Call {
     Order,
     Result,
     Feed,
-    Batch,
 }
 
 // The input has a length that the call takes.
@@ -36,23 +34,10 @@ pub fn long(call: Call, input: usize) -> bool
         Call::Order => input == Grid::SIZE,
         Call::Result => input == Grid::SIZE,
         Call::Feed => whole(input, Ranges::INPUTS),
-        Call::Batch => whole(input, Ranges::ITEMS),
     }
 }
 
-// The length of the answer to an input of so many bytes.
-pub fn answer_length(call: Call, input: usize) -> usize
-    ensures { result ≡ answer_length call input }
-{
-    match call {
-        Call::Order => Grid::SIZE,
-        Call::Result => Grid::SIZE,
-        Call::Feed => Grid::SIZE,
-        Call::Batch => input,
-    }
-}
-
-// Every field of the input keeps its rule. The items of a batch are asked one by one, later.
+// Every field of the input keeps its rule.
 fn fields(call: Call, input: &[u8]) -> bool
     requires { long_of call (length input.now) ≡ true }
     ensures { result ≡ fields_of call input.now }
@@ -61,7 +46,6 @@ fn fields(call: Call, input: &[u8]) -> bool
         Call::Order => is_order(input),
         Call::Result => is_result(input),
         Call::Feed => all_feed(input),
-        Call::Batch => true,
     }
 }
 
@@ -75,8 +59,7 @@ fn decide(
     answer: &mut [u8],
 ) -> Ended
     requires opened { Opened (fields_of call input.now) book.old dir.old t }
-    requires input_value { (long_of call (length input.now) ≡ true)
-        × (length answer.old ≡ answer_length call (length input.now)) }
+    requires input_value { (long_of call (length input.now) ≡ true) × (length answer.old ≡ record_size) }
     ensures status_value { result.status ≡ (decide_of call input.now (rows book.old)).status }
     ensures book_after { book.new
         ≡ book_left (decide_of call input.now (rows book.old)) book.old }
@@ -87,15 +70,13 @@ fn decide(
         Call::Order => order(book, dir, t, input, answer),
         Call::Result => result(book, dir, t, input, answer),
         Call::Feed => feed(book, dir, t, input, answer),
-        Call::Batch => batch(book, dir, t, input, answer),
     }
 }
 
 // The shell of a call that changes a book, around the inner call, where the lengths are right.
 pub fn within(call: Call, book: &mut [u8], dir: &mut [u16], input: &[u8], answer: &mut [u8]) -> i32
     requires room { Room book.old dir.old }
-    requires input_value { (long_of call (length input.now) ≡ true)
-        × (length answer.old ≡ answer_length call (length input.now)) }
+    requires input_value { (long_of call (length input.now) ≡ true) × (length answer.old ≡ record_size) }
     ensures { Promise (call_of call book.old input.now answer.old) result book.new
         answer.new }
 {

@@ -1,3 +1,2 @@
 pub mod Witness
 pub mod Pair
-pub mod Batches

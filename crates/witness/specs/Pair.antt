@@ -72,18 +72,14 @@ pub no_places : (p q : ℕ → Bool) → p 0 ≡ false → p 1 ≡ false → q 0
 unfolding keep
 no_places p q e f g h = rw (e, f, g, h) refl
 
--- results of accounts 1 and 2: each account's own order is kept, whatever the answer areas are
-pub apart_accounts : (spot : ℕ → List ℕ) (book : List ℕ) (list : List (List ℕ)) → account_of list spot book 0 ≡ 1
-    → account_of list spot book 1 ≡ 2 → (a : ℕ) → own_places list spot book a one ≡ own_places list spot book a other
-apart_accounts spot book list e f a =
-    at_most_one (λ (i : ℕ). eqb (account_of list spot book i) a)
+-- results of accounts 1 and 2: each account's own order is kept
+pub two_accounts : (book : List ℕ) (list : List (List ℕ)) → account_of list area book 0 ≡ 1
+    → account_of list area book 1 ≡ 2 → (a : ℕ) → own_places list area book a one ≡ own_places list area book a other
+two_accounts book list e f a =
+    at_most_one (λ (i : ℕ). eqb (account_of list area book i) a)
     (λ h.
     let q = eqb-true 1 a (sym (ap (λ (n : ℕ). eqb n a) e) ∙ h) in
     ap (λ (n : ℕ). eqb n a) f ∙ ne_eqb 2 a (λ r. absurd (omega arith)))
-
-pub two_accounts : (book : List ℕ) (list : List (List ℕ)) → account_of list area book 0 ≡ 1
-    → account_of list area book 1 ≡ 2 → (a : ℕ) → own_places list area book a one ≡ own_places list area book a other
-two_accounts = apart_accounts area
 
 pub their_orders : TwoOrders book theirs area area one other
 unfolding result_opened

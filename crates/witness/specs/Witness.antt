@@ -210,13 +210,13 @@ ends_differ e =
 abbrev balance_in : List ℕ → ℕ
 balance_in order = (decode (reply_to list area book order 0).answer).m1
 
-answers_of_holds : eqb (balance_in one) (balance_in swapped) ≡ false
+answers_of : eqb (balance_in one) (balance_in swapped) ≡ false
 unfolding result_opened replies seek
-answers_of_holds = refl
+answers_of = refl
 
 pub order_matters : Unhindered (replies list area book swapped)
     × ((reply_to list area book one 0).answer ≡ (reply_to list area book swapped 0).answer → ⊥)
 order_matters = (
   unhindered fine refl refl (replies list area book swapped) fine_swapped,
-  λ e. eqb-false (balance_in one) (balance_in swapped) answers_of_holds (ap (λ (k : List ℕ). (decode k).m1) e),
+  λ e. eqb-false (balance_in one) (balance_in swapped) answers_of (ap (λ (k : List ℕ). (decode k).m1) e),
 )

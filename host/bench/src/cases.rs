@@ -1,8 +1,8 @@
-//! Cases of the calls but for the batch that are accepted, for the programs that measure them. It is a part of each of
-//! them, and not of the library `bench`, as it calls libbook.a. Each of them leaves something of it unused.
+//! Cases of the four calls that are accepted, for the programs that measure them. It is a part of each of them, and not
+//! of the library `bench`, as it calls libbook.a. Each of them leaves something of it unused.
 #![allow(dead_code)]
 
-use crate::library::{run_of, Run};
+use crate::library::{Run, CALLS};
 use bench::yardstick::Yardstick;
 use second::calls::{Call, MAX_ENTRIES};
 use second::gen::{self, Focus, Plan};
@@ -56,7 +56,7 @@ fn input_for(rng: &mut Rng, name: &str, call: Call, rows: &[Row]) -> Option<Vec<
             Call::Feed | Call::Lookup if input.len() < MAX_ENTRIES => continue,
             Call::Feed | Call::Lookup => input.truncate(MAX_ENTRIES),
             Call::Order => input[0].flags &= !FLAG_ROLL_BACK,
-            Call::Result | Call::Batch => {}
+            Call::Result => {}
         }
         return Some(input);
     }
@@ -79,7 +79,7 @@ fn accepted(rng: &mut Rng, name: &str, call: Call, book: &[u8]) -> Option<Case> 
             run(&mut ours, &input, &mut answered) == 0 && ours == after && answered == answer
         };
         assert!(
-            same(run_of(call)),
+            same(library_run(call)),
             "{name}: the library differs from the second program"
         );
         assert!(
@@ -123,4 +123,9 @@ pub fn cases(records: usize) -> (Vec<Vec<u8>>, Vec<Vec<Case>>) {
         }
     }
     (books, by_line)
+}
+
+pub fn library_run(call: Call) -> Run {
+    let (_, run) = CALLS.iter().find(|(other, _)| *other == call).unwrap();
+    *run
 }

@@ -21,8 +21,7 @@ exported!(
     book_order on *mut u8,
     book_result on *mut u8,
     book_feed on *mut u8,
-    book_lookup on *const u8,
-    book_batch on *mut u8
+    book_lookup on *const u8
 );
 
 /// A call on a book, an input and an answer area.
@@ -44,14 +43,4 @@ pub const CALLS: &[(Call, Run)] = &[
     (Call::Feed, on_slices!(book_feed)),
     (Call::Order, on_slices!(book_order)),
     (Call::Result, on_slices!(book_result)),
-    (Call::Batch, on_slices!(book_batch)),
 ];
-
-/// The library's own.
-pub fn run_of(call: Call) -> Run {
-    let (_, run) = CALLS
-        .iter()
-        .find(|(other, _)| *other == call)
-        .expect("the library has every call");
-    *run
-}

@@ -1,25 +1,21 @@
 //! `calls [--seed S] [--cases N] [--runs N] [--seconds T] [--only NAME N] [--sentences TEXT]`: holds the library to the
-//! second program: each sentence of the rules, broken and kept; N random cases of each call (else 50,000), but of
-//! batches, which are longer, two for every five of them; and one sequence of calls on one book for every ten. Every
-//! batch that is accepted is held to the library's own single calls in turn, too. Then it holds the library to itself:
-//! runs of results in two orders, each by single calls and cut into batches, until N (else 10,000) have been compared.
-//! With --seconds all of this goes on for so long instead, and with 0 until ten have failed. With --only it runs one
-//! case of a call, one `sequence`, or one `run` of the seed again; with --sentences nothing but the sentences that
-//! have TEXT in their labels. After every call that is accepted the book is sound, after every other it is as before.
-//! Prints how often each status came; its last line is 'N passed, M failed'.
+//! second program: each sentence of the rules, broken and kept; N random cases of each call (else 50,000) and one
+//! sequence of calls on one book for every ten of them. Then it holds the library to itself: runs of results in two
+//! orders, until N (else 10,000) have been compared. With --seconds all of this goes on for so long instead, and with 0
+//! until ten have failed. With --only it runs one case of a call, one `sequence`, or one `run` of the seed again; with
+//! --sentences nothing but the sentences that have TEXT in their labels. After every call that is accepted the book is
+//! sound, after every other it is as before. Prints how often each status came; its last line is 'N passed, M failed'.
 
 mod area;
-mod batches;
 mod library;
 mod runs;
 mod sentences;
 mod spread;
 
 use area::Area;
-use batches::Batches;
-use library::{run_of, Run, CALLS};
+use library::{Run, CALLS};
 use runs::Runs;
-use second::calls::{single, Call};
+use second::calls::Call;
 use second::gen::{self, Case, Plan};
 use second::record::{MAX_RECORDS, RECORD};
 use second::rng::Rng;
@@ -28,8 +24,6 @@ use std::collections::BTreeMap;
 use std::time::{Duration, Instant};
 
 const CASES: u64 = 50_000;
-/// There are so many batches for so many cases of another call.
-const BATCHES: (u64, u64) = (2, 5);
 /// There is one sequence for so many cases of each call, and it has so many steps.
 const CASES_PER_SEQUENCE: u64 = 10;
 const STEPS: usize = 30;
@@ -55,7 +49,6 @@ struct Tally {
     in_sequences: BTreeMap<(Call, i32), u64>,
     /// How many cases were to be accepted on a book of all records that there may be.
     on_largest: BTreeMap<Call, u64>,
-    batches: Batches,
     runs: Runs,
     kept: Kept,
 }
@@ -98,23 +91,15 @@ impl Tally {
     }
 }
 
-/// What is expected of a case, and what is wrong.
-struct Compared {
-    status: i32,
-    /// The statuses of the items, where the case is a batch that is to be accepted.
-    items: Vec<i32>,
-    fault: Option<String>,
-}
-
 /// Runs the library on the book where it lies and on areas of its own for the rest, and the second program on copies.
-/// Where it is an accepted batch, the library's single calls run in turn on another copy.
+/// Gives the status that is expected and what is wrong.
 fn compare(
     kept: &mut Kept,
     rng: &mut Rng,
     run: impl Fn(&mut [u8], &[u8], &mut [u8]) -> i32,
     case: &Case,
     book: &mut Area,
-) -> Compared {
+) -> (i32, Option<String>) {
     let mut expected_book = case.book.clone();
     let mut expected_answer = case.answer.clone();
     let expected = case
@@ -123,40 +108,26 @@ fn compare(
     let mut input = Area::new(rng, &case.input);
     let mut answer = Area::new(rng, &case.answer);
     let status = run(book.bytes(), input.bytes(), answer.bytes());
-    let is_batch = case.call == Call::Batch && expected == 0;
     let fault = (status != expected)
         .then(|| format!("status {status}, expected {expected}"))
         .or_else(|| book.fault("book", &expected_book))
         .or_else(|| input.fault("input", &case.input))
         .or_else(|| answer.fault("answer", &expected_answer))
-        .or_else(|| kept.fault(status, &case.book, book.bytes()))
-        .or_else(|| {
-            is_batch.then(|| batches::fault_in_turn(case, book.bytes(), answer.bytes()))?
-        });
-    Compared {
-        status: expected,
-        items: match is_batch {
-            true => batches::statuses_in(&expected_answer),
-            false => Vec::new(),
-        },
-        fault,
-    }
+        .or_else(|| kept.fault(status, &case.book, book.bytes()));
+    (expected, fault)
 }
 
 fn run_case(tally: &mut Tally, seed: u64, call: Call, run: Run, number: u64) {
     let mut rng = Rng::of(seed, call.kind(), number);
     let case = gen::any_case(&mut rng, call);
     let mut book = Area::new(&mut rng, &case.book);
-    let compared = compare(&mut tally.kept, &mut rng, run, &case, &mut book);
-    *tally.alone.entry((call, compared.status)).or_default() += 1;
-    if compared.status == 0 && case.book.len() == MAX_RECORDS * RECORD {
+    let (status, fault) = compare(&mut tally.kept, &mut rng, run, &case, &mut book);
+    *tally.alone.entry((call, status)).or_default() += 1;
+    if status == 0 && case.book.len() == MAX_RECORDS * RECORD {
         *tally.on_largest.entry(call).or_default() += 1;
     }
-    if compared.status == 0 && call == Call::Batch {
-        tally.batches.count(&compared.items);
-    }
     let name = || format!("seed {seed}, {} case {number}", call.name());
-    tally.count(name, compared.fault);
+    tally.count(name, fault);
 }
 
 /// Random calls in turn on one book, which the library keeps where it is. A call that wants the book spoilt gets
@@ -178,36 +149,25 @@ fn run_sequence(tally: &mut Tally, seed: u64, number: u64) {
     for step in 1..=STEPS {
         let (call, run) = *rng.pick(CALLS);
         let case = gen::case_on(&mut rng, call, book.bytes().to_vec());
-        let compared = if case.book == book.bytes() {
+        let (status, fault) = if case.book == book.bytes() {
             compare(&mut tally.kept, &mut rng, run, &case, &mut book)
         } else {
             let mut spoilt = Area::new(&mut rng, &case.book);
             compare(&mut tally.kept, &mut rng, run, &case, &mut spoilt)
         };
-        *tally
-            .in_sequences
-            .entry((call, compared.status))
-            .or_default() += 1;
-        let failed = compared.fault.is_some();
+        *tally.in_sequences.entry((call, status)).or_default() += 1;
+        let failed = fault.is_some();
         let name = || {
             format!(
                 "seed {seed}, sequence {number}, step {step}, {}",
                 call.name()
             )
         };
-        tally.count(name, compared.fault);
+        tally.count(name, fault);
         if failed {
             return;
         }
     }
-}
-
-/// Whether the items of an accepted batch, by its answers, have an order and a result that are accepted among them.
-fn has_both(case: &Case, answer: &[u8]) -> bool {
-    [Call::Order, Call::Result].into_iter().all(|wanted| {
-        let mut items = case.input.chunks(RECORD).zip(batches::statuses_in(answer));
-        items.any(|(item, status)| status == 0 && single(item[0]) == Some(wanted))
-    })
 }
 
 /// A case of this call that is accepted, on a book of all records that there may be.
@@ -217,8 +177,7 @@ fn largest(rng: &mut Rng, call: Call) -> Case {
         let book = gen::book_of(rng, &plan);
         let case = gen::case_on(rng, call, book);
         let (mut book, mut answer) = (case.book.clone(), case.answer.clone());
-        let status = call.run(&mut book, &case.input, &mut answer);
-        if status == 0 && (call != Call::Batch || has_both(&case, &answer)) {
+        if call.run(&mut book, &case.input, &mut answer) == 0 {
             return case;
         }
     }
@@ -239,8 +198,8 @@ fn run_on_small_stacks(tally: &mut Tally, seed: u64) {
             })
         };
         let mut book = Area::new(&mut rng, &case.book);
-        let compared = compare(&mut tally.kept, &mut rng, on_thread, &case, &mut book);
-        tally.count(name, compared.fault);
+        let (_, fault) = compare(&mut tally.kept, &mut rng, on_thread, &case, &mut book);
+        tally.count(name, fault);
     }
 }
 
@@ -342,18 +301,8 @@ fn run_all(tally: &mut Tally, asked: &Asked) {
             run_on_small_stacks(tally, asked.seed);
             spread::run(tally, asked.seed);
         }
-        for (call, run) in CALLS.iter().filter(|(call, _)| *call != Call::Batch) {
+        for (call, run) in CALLS {
             run_case(tally, asked.seed, *call, *run, number);
-        }
-        let batches = |number: u64| number * BATCHES.0 / BATCHES.1;
-        if batches(number) > batches(number - 1) {
-            run_case(
-                tally,
-                asked.seed,
-                Call::Batch,
-                run_of(Call::Batch),
-                batches(number),
-            );
         }
         if number % CASES_PER_SEQUENCE == 0 {
             run_sequence(tally, asked.seed, number / CASES_PER_SEQUENCE);
@@ -362,16 +311,12 @@ fn run_all(tally: &mut Tally, asked: &Asked) {
             runs::run(tally, asked.seed, number / CASES_PER_RUN);
         }
         if number % 1_000_000 == 0 {
-            println!(
-                "{number} cases of each call but batches, {} failed",
-                tally.failed
-            );
+            println!("{number} cases of each call, {} failed", tally.failed);
         }
         number += 1;
     }
     if number > 1 {
         report_cases(tally);
-        batches::report(tally);
     }
     if !by_turns {
         runs::run_until(tally, asked.seed, asked.runs);

@@ -1,13 +1,11 @@
 //! Demand 3, of the library alone: "A list of results run in two orders that keep each account's own order, neither
 //! run meeting -104 or -105, gives every result the same answer and ends with the same rows, each as many times."
-//! "Demand 3 covers batches of results, taken as their lists" (2026-03): each order runs cut into batches, too.
 
 use crate::area::Area;
-use crate::batches::{status_in, statuses_in};
-use crate::library::run_of;
+use crate::library::{Run, CALLS};
 use crate::{Tally, RUN};
 use second::calls::{Call, NO_ROOM, OUT_OF_RANGE};
-use second::record::RECORD;
+use second::record::{Row, RECORD};
 use second::rng::Rng;
 use second::runs;
 use std::collections::BTreeMap;
@@ -20,9 +18,6 @@ pub struct Runs {
     hindered: u64,
     /// Compared, and the rows of the two end books lie on other places.
     moved: u64,
-    /// How many batches the orders were cut into, and how many results were not alone in theirs.
-    batches: u64,
-    in_company: u64,
     /// How often a result gave a status, in the runs compared and in those left out, both orders counted.
     in_compared: BTreeMap<i32, u64>,
     in_hindered: BTreeMap<i32, u64>,
@@ -34,103 +29,38 @@ struct End {
     book: Vec<u8>,
 }
 
-/// Makes a call on the book with areas of its own for the rest: the status and the answer, or what is wrong around them
-/// and with the book. The answer is as long as the input.
-fn make(
-    tally: &mut Tally,
-    rng: &mut Rng,
-    call: Call,
-    book: &mut Area,
-    records: &[u8],
-) -> Result<(i32, Vec<u8>), String> {
-    let before = book.bytes().to_vec();
-    let mut input = Area::new(rng, records);
-    let filled = rng.bytes(records.len());
-    let mut answer = Area::new(rng, &filled);
-    let status = run_of(call)(book.bytes(), input.bytes(), answer.bytes());
-    let fault = book
-        .fault_around("book")
-        .or_else(|| input.fault("input", records))
-        .or_else(|| answer.fault_around("answer"))
-        .or_else(|| tally.kept.fault(status, &before, book.bytes()));
-    fault.map_or(Ok((status, answer.bytes().to_vec())), Err)
-}
-
 /// Runs the results in this order, or says which of them is wrong and why.
 fn run_in(
     tally: &mut Tally,
     rng: &mut Rng,
+    result: Run,
     run: &runs::Run,
     order: &[usize],
 ) -> Result<End, String> {
     let mut book = Area::new(rng, &run.book);
     let mut answers = vec![(0, Vec::new()); run.list.len()];
     for at in order {
-        let (status, answer) = make(tally, rng, Call::Result, &mut book, &run.list[*at].write())
-            .map_err(|fault| format!("result {at}: {fault}"))?;
-        let written = status_in(&answer);
-        if written != status {
-            return Err(format!(
-                "result {at}: status {status}, in the answer {written}"
-            ));
+        let before = book.bytes().to_vec();
+        let record = run.list[*at].write();
+        let mut input = Area::new(rng, &record);
+        let filled = rng.bytes(RECORD);
+        let mut answer = Area::new(rng, &filled);
+        let status = result(book.bytes(), input.bytes(), answer.bytes());
+        let answered = answer.bytes().to_vec();
+        let written = Row::read(answered[..].try_into().unwrap()).n5 as i32;
+        let fault = (written != status)
+            .then(|| format!("status {status}, in the answer {written}"))
+            .or_else(|| book.fault_around("book"))
+            .or_else(|| input.fault("input", &record))
+            .or_else(|| answer.fault_around("answer"))
+            .or_else(|| tally.kept.fault(status, &before, book.bytes()));
+        if let Some(fault) = fault {
+            return Err(format!("result {at}: {fault}"));
         }
-        answers[*at] = (status, answer);
+        answers[*at] = (status, answered);
     }
     let book = book.bytes().to_vec();
     Ok(End { answers, book })
-}
-
-/// The same in batches, which the order is cut into at random.
-fn run_in_batches(
-    tally: &mut Tally,
-    rng: &mut Rng,
-    run: &runs::Run,
-    order: &[usize],
-) -> Result<End, String> {
-    let mut book = Area::new(rng, &run.book);
-    let mut answers = vec![(0, Vec::new()); run.list.len()];
-    let mut rest = order;
-    for length in runs::cuts(rng, order.len()) {
-        let (piece, behind) = rest.split_at(length);
-        rest = behind;
-        let records: Vec<u8> = piece.iter().flat_map(|at| run.list[*at].write()).collect();
-        let name = |fault| format!("a batch from result {} on: {fault}", piece[0]);
-        let (status, answer) = make(tally, rng, Call::Batch, &mut book, &records).map_err(name)?;
-        if status != 0 {
-            return Err(name(format!("status {status}")));
-        }
-        let answered = answer.chunks(RECORD).zip(statuses_in(&answer));
-        for (at, (answer, status)) in piece.iter().zip(answered) {
-            answers[*at] = (status, answer.to_vec());
-        }
-        tally.runs.batches += 1;
-        tally.runs.in_company += if length > 1 { length as u64 } else { 0 };
-    }
-    let left_out = (!rest.is_empty()).then(|| "the cuts leave results out".to_string());
-    let book = book.bytes().to_vec();
-    left_out.map_or(Ok(End { answers, book }), Err)
-}
-
-/// Runs the results in this order, by single calls and in batches: every answer and every byte of the end book are the
-/// same.
-fn run_both(
-    tally: &mut Tally,
-    rng: &mut Rng,
-    run: &runs::Run,
-    order: &[usize],
-) -> Result<End, String> {
-    let singly = run_in(tally, rng, run, order)?;
-    let batched = run_in_batches(tally, rng, run, order)?;
-    let other = singly
-        .answers
-        .iter()
-        .zip(&batched.answers)
-        .position(|(a, b)| a != b);
-    match other {
-        Some(at) => Err(format!("result {at}: another answer in a batch")),
-        None if singly.book != batched.book => Err("batches leave another book".to_string()),
-        None => Ok(batched),
-    }
 }
 
 /// What differs between the ends of two orders that demand 3 wants alike.
@@ -164,9 +94,13 @@ pub fn run(tally: &mut Tally, seed: u64, number: u64) {
     let mut rng = Rng::of(seed, RUN, number);
     let run = runs::any_run(&mut rng);
     let as_listed: Vec<usize> = (0..run.list.len()).collect();
+    let (_, result) = *CALLS
+        .iter()
+        .find(|(call, _)| *call == Call::Result)
+        .unwrap();
     let name = || format!("seed {seed}, run {number}");
-    let ends = run_both(tally, &mut rng, &run, &as_listed).and_then(|first| {
-        let second = run_both(tally, &mut rng, &run, &run.order)?;
+    let ends = run_in(tally, &mut rng, result, &run, &as_listed).and_then(|first| {
+        let second = run_in(tally, &mut rng, result, &run, &run.order)?;
         Ok((first, second))
     });
     let (first, second) = match ends {
@@ -212,14 +146,7 @@ pub fn report(tally: &mut Tally) {
     let runs = &tally.runs;
     let (compared, hindered, moved) = (runs.compared, runs.hindered, runs.moved);
     println!("{compared} runs in two orders compared, {moved} with rows on other places; {hindered} met -104 or -105");
-    println!(
-        "the orders were cut into {} batches, too, which have {} results in batches of two or more",
-        runs.batches, runs.in_company
-    );
     let mut faults = Vec::new();
-    if runs.in_company == 0 {
-        faults.push("no batch has more than one result".to_string());
-    }
     if compared < hindered || compared == 0 {
         faults.push("fewer than half are compared".to_string());
     }

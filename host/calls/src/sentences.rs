@@ -1,7 +1,7 @@
 //! The sentences of the rules: a broken one must be refused, with nothing changed, and its neighbour must not be.
 
 use crate::area::Area;
-use crate::library::run_of;
+use crate::library::CALLS;
 use crate::{compare, Tally};
 use second::calls::{BAD_INPUT, NOT_SOUND};
 use second::rng::Rng;
@@ -41,25 +41,18 @@ pub fn run(tally: &mut Tally, text: &str) {
 fn run_item(tally: &mut Tally, number: u32, item: &Item) {
     let mut rng = Rng::of(0, 0, u64::from(number));
     for case in item.cases(number) {
+        let (_, run) = CALLS
+            .iter()
+            .find(|(call, _)| *call == case.call)
+            .expect("all four");
         let mut book = Area::new(&mut rng, &case.book);
-        let compared = compare(
-            &mut tally.kept,
-            &mut rng,
-            run_of(case.call),
-            &case,
-            &mut book,
-        );
-        let given = [&[compared.status], &compared.items[..]].concat();
+        let (expected, fault) = compare(&mut tally.kept, &mut rng, run, &case, &mut book);
         let right = match item.refused {
-            Some(refused) => compared.status == refused,
-            None if item.items.is_empty() => {
-                !given.contains(&NOT_SOUND) && !given.contains(&BAD_INPUT)
-            }
-            None => compared.status == 0 && compared.items == item.items,
+            Some(refused) => expected == refused,
+            None => expected != NOT_SOUND && expected != BAD_INPUT,
         };
-        let fault = compared
-            .fault
-            .or_else(|| (!right).then(|| format!("the second program gives {given:?}")));
+        let fault =
+            fault.or_else(|| (!right).then(|| format!("the second program gives {expected}")));
         tally.count(
             || format!("sentence {number}, {}, {}", item.label, case.call.name()),
             fault,

@@ -279,11 +279,10 @@ fn collisions(tally: &mut Tally, hash: &Hash, rng: &mut Rng) {
             let shared = hash.longest(&trades, SIZES[0].1) == trades.len();
             let case = gen::case_on(rng, *call, book);
             let mut area = Area::new(rng, &case.book);
-            let compared = compare(&mut tally.kept, rng, run, &case, &mut area);
-            let fault = compared
-                .fault
-                .or_else(|| (!shared).then(|| "the trades do not share a bucket".to_string()));
-            accepted += u64::from(compared.status == 0);
+            let (status, fault) = compare(&mut tally.kept, rng, run, &case, &mut area);
+            let fault =
+                fault.or_else(|| (!shared).then(|| "the trades do not share a bucket".to_string()));
+            accepted += u64::from(status == 0);
             tally.count(
                 || format!("{} on a book that collides, round {round}", call.name()),
                 fault,

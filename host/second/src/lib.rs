@@ -30,8 +30,7 @@ macro_rules! exported {
 exported!(
     book_order by calls::order,
     book_result by calls::result,
-    book_feed by calls::feed,
-    book_batch by calls::batch
+    book_feed by calls::feed
 );
 
 /// # Safety

@@ -1,7 +1,6 @@
 //! `book-check FILE`: says of a book `sound`, or why it is refused: `refused -102 S8 place 19`, then the row at that
 //! place in words, then what is wrong with it. Places are counted from 0. `book-check --input CALL FILE` says of the
-//! input of an order, result, feed, lookup or batch `good`, or `refused -103 n1 record 0` and the same. FILE may be
-//! `-`.
+//! input of an order, result, feed or lookup `good`, or `refused -103 n1 record 0` and the same. FILE may be `-`.
 //!
 //! Not proved: it is the second program's word. Its status is 0 if nothing is refused, 1 if something is, else 2.
 
@@ -11,7 +10,7 @@ use std::io::{self, Read};
 use std::process::ExitCode;
 
 const USAGE: &str = "usage: book-check FILE
-       book-check --input order|result|feed|lookup|batch FILE
+       book-check --input order|result|feed|lookup FILE
 What it says is the second program's word, and not proved.";
 
 fn read(path: &str) -> io::Result<Vec<u8>> {

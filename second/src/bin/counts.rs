@@ -1,11 +1,10 @@
 //! `counts SEED COUNT [RECORDS]`: runs COUNT random cases of each call on books of at most RECORDS
 //! records, and prints how often each status came, why executors, gains and bands were refused, and
-//! what the accepted calls had to do. For batches it prints how often each status of an item came, too.
+//! what the accepted calls had to do.
 
-use second::calls::{Call, ITEM_STATUSES};
+use second::calls::Call;
 use second::features;
 use second::gen;
-use second::record::rows_of;
 use second::rng::Rng;
 use std::collections::BTreeMap;
 
@@ -24,16 +23,10 @@ fn main() {
     let records = numbers.get(2).copied().unwrap_or(64).clamp(1, 4_096) as usize;
     let mut rng = Rng::new(seed);
     for (call, wanted) in features::WANTED {
-        let (statuses, items, found) = count_cases(&mut rng, *call, records, count);
+        let (statuses, found) = count_cases(&mut rng, *call, records, count);
         println!("{}", call.name());
         for status in call.statuses() {
             println!("  {:>6}  {status}", statuses.get(status).unwrap_or(&0));
-        }
-        if *call == Call::Batch {
-            for status in ITEM_STATUSES {
-                let count = items.get(status).unwrap_or(&0);
-                println!("  {count:>6}  {status} of an item");
-            }
         }
         for name in features::reasons(*call).iter().chain(*wanted) {
             println!("  {:>6}  {name}", found.get(name).unwrap_or(&0));
@@ -48,9 +41,8 @@ fn count_cases(
     call: Call,
     records: usize,
     count: u64,
-) -> (Counts<i32>, Counts<i32>, Counts<&'static str>) {
+) -> (Counts<i32>, Counts<&'static str>) {
     let mut statuses = Counts::new();
-    let mut items = Counts::new();
     let mut found = Counts::new();
     for _ in 0..count {
         let case = gen::case(rng, call, records);
@@ -61,16 +53,11 @@ fn count_cases(
         for name in features::of_refusal(call, status, &case.book, &case.input) {
             *found.entry(name).or_default() += 1;
         }
-        if call == Call::Batch && status == 0 {
-            for item in rows_of(&answer) {
-                *items.entry(item.n5 as i32).or_default() += 1;
-            }
-        }
         if status == 0 {
             for name in features::of(call, &case.book, &book, &case.input, &answer) {
                 *found.entry(name).or_default() += 1;
             }
         }
     }
-    (statuses, items, found)
+    (statuses, found)
 }

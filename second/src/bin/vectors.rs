@@ -1,36 +1,17 @@
-//! `vectors SEED COUNT [CALL...]`: prints COUNT small random cases, one on a line: call, book, input,
-//! answer area before, then the status, the answer and the book that are expected. Areas are
-//! hexadecimal, `-` for one of no bytes. The calls come in turn; for each, its statuses in turn, and as
-//! many successes, which show in turn what a success can do. Without names they are the four that are
-//! no batch.
+//! `vectors SEED COUNT`: prints COUNT small random cases, one on a line: call, book, input, answer
+//! area before, then the status, the answer and the book that are expected. Areas are hexadecimal,
+//! `-` for one of no bytes. The four calls come in turn; for each, its statuses in turn, and as many
+//! successes, which show in turn what a success can do.
 
 use second::calls::Call;
 use second::features;
 use second::gen::{self, Case};
 use second::hex::encode;
-use second::record::RECORD;
 use second::rng::Rng;
 use std::io::{self, Write};
 
 /// The books are small enough for a slow checker.
 const MOST_RECORDS: usize = 24;
-/// And so are the batches: of so many items, or of areas as long.
-const MOST_ITEMS: usize = 5;
-
-fn is_small(case: &Case) -> bool {
-    let longest = case.input.len().max(case.answer.len());
-    case.call != Call::Batch || longest <= MOST_ITEMS * RECORD
-}
-
-/// A random case that is small enough.
-fn any(rng: &mut Rng, call: Call) -> Case {
-    loop {
-        let case = gen::case(rng, call, MOST_RECORDS);
-        if is_small(&case) {
-            return case;
-        }
-    }
-}
 
 fn run(case: &Case) -> (i32, Vec<u8>, Vec<u8>) {
     let mut book = case.book.clone();
@@ -43,7 +24,7 @@ fn run(case: &Case) -> (i32, Vec<u8>, Vec<u8>) {
 /// in good time.
 fn aimed(rng: &mut Rng, call: Call, status: i32, feature: &str) -> Case {
     for _ in 0..5_000 {
-        let case = any(rng, call);
+        let case = gen::case(rng, call, MOST_RECORDS);
         let (found, answer, book) = run(&case);
         if found != status {
             continue;
@@ -54,44 +35,25 @@ fn aimed(rng: &mut Rng, call: Call, status: i32, feature: &str) -> Case {
             return case;
         }
     }
-    any(rng, call)
-}
-
-fn asked() -> Option<(u64, u64, Vec<Call>)> {
-    let words: Vec<String> = std::env::args().skip(1).collect();
-    let [seed, count, names @ ..] = &words[..] else {
-        return None;
-    };
-    let named = |name: &String| Call::ALL.into_iter().find(|call| call.name() == name);
-    let mut calls: Vec<Call> = names.iter().map(named).collect::<Option<_>>()?;
-    if calls.is_empty() {
-        calls = Call::SINGLE.to_vec();
-    }
-    Some((seed.parse().ok()?, count.parse().ok()?, calls))
-}
-
-/// What a success of this call shall show, but for what takes more items than there are here.
-fn wanted(call: Call) -> Vec<&'static str> {
-    let (_, list) = features::WANTED.iter().find(|(of, _)| *of == call).unwrap();
-    let long = ["has 21 to 254 items", "has 255 items", "has 256 items"];
-    list.iter()
-        .copied()
-        .filter(|name| !long.contains(name))
-        .collect()
+    gen::case(rng, call, MOST_RECORDS)
 }
 
 fn main() -> io::Result<()> {
-    let Some((seed, count, calls)) = asked() else {
-        eprintln!("usage: vectors SEED COUNT [CALL...]");
+    let numbers: Vec<u64> = std::env::args()
+        .skip(1)
+        .filter_map(|text| text.parse().ok())
+        .collect();
+    let [seed, count] = numbers[..] else {
+        eprintln!("usage: vectors SEED COUNT");
         std::process::exit(2);
     };
     let mut rng = Rng::new(seed);
     let mut out = io::BufWriter::new(io::stdout().lock());
     for number in 0..count as usize {
-        let call = calls[number % calls.len()];
-        let (statuses, wanted) = (call.statuses(), wanted(call));
+        let (call, wanted) = features::WANTED[number % 4];
+        let statuses = call.statuses();
         // Successes have the most to show: every other case of a call is one.
-        let turn = number / calls.len();
+        let turn = number / 4;
         let status = if turn % 2 == 0 {
             statuses[turn / 2 % statuses.len()]
         } else {

@@ -26,6 +26,11 @@ const LATER: [(i32, Change); 7] = [
     (NO_ROOM, |book| book.retain(|row| !row.is_free())),
 ];
 
+fn set(book: &mut [Row], kind: u8, change: fn(&mut Row)) {
+    let rows = book.iter_mut().filter(|row| row.kind == kind);
+    rows.for_each(change);
+}
+
 impl List {
     /// An order on the usual book with these rows more, which is then changed, and the order's refusal.
     fn order(&mut self, label: &str, rows: &[Row], change: Change, order: Row, status: i32) {
@@ -35,10 +40,8 @@ impl List {
             label: format!("-721 {label}"),
             book,
             input: Some((Call::Order, vec![order])),
-            lengths: None,
             breaks: Vec::new(),
             refused: (status != 0).then_some(status),
-            items: Vec::new(),
         });
     }
 

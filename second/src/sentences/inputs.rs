@@ -1,19 +1,11 @@
-//! The field rules of the inputs of the calls that are no batch.
+//! The field rules of the four inputs.
 
 use super::rows::*;
 use super::{Item, List};
 use crate::calls::{Call, BAD_INPUT, MAX_ENTRIES};
 use crate::record::*;
 
-/// An input that its call accepts on the books here: one record, or for a batch an order and a result.
-pub(super) fn usual_input(call: Call) -> Vec<Row> {
-    match call {
-        Call::Batch => [Call::Order, Call::Result].map(usual_record).to_vec(),
-        _ => vec![usual_record(call)],
-    }
-}
-
-/// The record of such an input.
+/// An input that its call accepts on the books here.
 pub(super) fn usual_record(call: Call) -> Row {
     let zero = Row {
         kind: call.kind(),
@@ -42,7 +34,6 @@ pub(super) fn usual_record(call: Call) -> Row {
             ..zero
         },
         Call::Lookup => Row { id: 10, ..zero },
-        Call::Batch => unreachable!("it has records of the others"),
     }
 }
 
@@ -61,10 +52,8 @@ impl List {
                 label: format!("{} {label}", call.name()),
                 book: self.book(&[]),
                 input: Some((call, rows)),
-                lengths: None,
                 breaks: Vec::new(),
                 refused: (!good).then_some(BAD_INPUT),
-                items: Vec::new(),
             });
         }
     }
@@ -87,19 +76,18 @@ impl List {
 
 pub(super) fn add(list: &mut List) {
     use Field::*;
-    for call in Call::SINGLE {
+    for call in Call::ALL {
         let usual = usual_record(call);
         let used: &[Field] = match call {
             Call::Order => &[Kind, Typ, Flags, Party, Symbol, N1, N2, N3, Time],
             Call::Result => &[Kind, Id, N1, Time],
             Call::Feed => &[Kind, Symbol, N1, N2, Time],
             Call::Lookup => &[Kind, Id],
-            Call::Batch => unreachable!("it has records of the others"),
         };
         for kind in (0..=255).filter(|kind| *kind != call.kind()) {
             list.record(call, &format!("kind {kind}"), Row { kind, ..usual }, false);
         }
-        for other in Call::SINGLE.into_iter().filter(|other| *other != call) {
+        for other in Call::ALL.into_iter().filter(|other| *other != call) {
             let label = format!("the record of another call, {}", other.name());
             list.record(call, &label, usual_record(other), false);
         }

@@ -338,12 +338,6 @@ pub(super) fn unused_places(used: &[Field]) -> Vec<usize> {
     unused.flat_map(|(_, at, len)| at..at + len).collect()
 }
 
-/// Changes all rows of a kind.
-pub(super) fn set(book: &mut [Row], kind: u8, change: fn(&mut Row)) {
-    let rows = book.iter_mut().filter(|row| row.kind == kind);
-    rows.for_each(change);
-}
-
 pub(super) fn with_byte(row: Row, at: usize, value: u8) -> Row {
     let mut bytes = row.write();
     bytes[at] = value;

@@ -3,7 +3,7 @@ use borrow.Author.Rules.{rules}
 use Rattle.reply.proofs.refusal.Statement.{statement}
 use Rattle.reply.proofs.refusal.Tie as tie
 use Rattle.facts.specs.Status.{number_back}
-use Rattle.model.specs.Batch.{refusal}
+use Rattle.reply.specs.Refusal.{refusal}
 
 returns : tie.Need-returns
 unfolding refusal

@@ -11,8 +11,7 @@ order_requires c κs =
     let found = start.requires.0 in
     let good = rw told.enum_told.given.1 at found.is_good in
     let long = eqb-true _ _ (rw told.enum_told.given.1 at start.requires.1.0) in
-    let one = rw told.enum_told.given.1 at start.requires.1.1 in
-    (found.listed, ((found.is_sound, found.is_whole), ((long, good), one)))
+    (found.listed, ((found.is_sound, found.is_whole), ((long, good), start.requires.1.1)))
 
 result_requires : tie.Need-result-requires
 result_requires c κs =
@@ -21,24 +20,15 @@ result_requires c κs =
     let found = start.requires.0 in
     let good = rw told.enum-told2.given.1 at found.is_good in
     let long = eqb-true _ _ (rw told.enum-told2.given.1 at start.requires.1.0) in
-    let one = rw told.enum-told2.given.1 at start.requires.1.1 in
-    (found.listed, ((found.is_sound, found.is_whole), ((long, good), one)))
+    (found.listed, ((found.is_sound, found.is_whole), ((long, good), start.requires.1.1)))
 
 feed_requires : tie.Need-feed-requires
 feed_requires c κs =
     let told = c.before.before.before in
     let start = told.before.before.before.before.before.before in
     let found = start.requires.0 in
-    let long = rw told.enum-told3.given.1 at start.requires.1 in
-    (found.listed, ((found.is_sound, found.is_whole), long))
-
-batch_requires : tie.Need-batch-requires
-batch_requires c κs =
-    let told = c.before.before.before in
-    let start = told.before.before.before.before.before.before in
-    let found = start.requires.0 in
-    let long = rw told.enum-told4.given.1 at start.requires.1 in
-    (found.listed, ((found.is_sound, found.is_whole), long))
+    let long = rw told.enum-told3.given.1 at start.requires.1.0 in
+    (found.listed, ((found.is_sound, found.is_whole), (long, start.requires.1.1)))
 
 returns : tie.Need-returns
 returns c =
@@ -58,16 +48,9 @@ returns_3 c =
     let on = feed.feed.ensures in
     rw feed.before.before.before.before.enum-told3.given.1 (on.0, (on.1.0, on.1.1.0))
 
-returns_4 : tie.Need-returns-4
-returns_4 c =
-    let batch = c.before.before.before.before.before.before in
-    let on = batch.batch.ensures in
-    rw batch.before.before.before.before.enum-told4.given.1 (on.0, (on.1.0, on.1.1.0))
-
 pub decide_spec : {M : Type 1} → statement M
 decide_spec =
     tie.close
     (tie.spec (λ c. search rules) order_requires (λ c. search rules) result_requires (λ c. search rules) feed_requires
-    (λ c. search rules) batch_requires (λ c. search rules) (λ c. search rules) (λ c. search rules) returns
-    (λ c. search rules) (λ c. search rules) (λ c. search rules) returns_2 (λ c. search rules) (λ c. search rules)
-    (λ c. search rules) returns_3 (λ c. search rules) (λ c. search rules) (λ c. search rules) returns_4)
+    (λ c. search rules) (λ c. search rules) (λ c. search rules) returns (λ c. search rules) (λ c. search rules)
+    (λ c. search rules) returns_2 (λ c. search rules) (λ c. search rules) (λ c. search rules) returns_3)

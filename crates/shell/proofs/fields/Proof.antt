@@ -19,11 +19,8 @@ returns_2 c = rw c.before.enum-told2.given.1 c.is-result.ensures
 returns_3 : tie.Need-returns-3
 returns_3 c = rw c.before.enum-told3.given.1 c.all-feed.ensures
 
-returns_4 : tie.Need-returns-4
-returns_4 c = rw c.enum-told4.given.1
-
 pub fields_spec : {M : Type 1} → statement M
 fields_spec =
     tie.close
     (tie.spec (λ c. search rules) is_order_requires (λ c. search rules) is_result_requires (λ c. search rules)
-    (λ c κs. search rules) (λ c. search rules) returns returns_2 returns_3 returns_4)
+    (λ c κs. search rules) returns returns_2 returns_3)

@@ -3,17 +3,9 @@ use native.Mathlib.Omega.{arith}
 use borrow.Author.Rules.{rules}
 use Rattle.facts.specs.Status.{number_back}
 use Rattle.by_kind.specs.ByRow.{rule_kept, rule_lost}
-use Rattle.shell.specs.Shell.{answer_long, decides, long_both, refuses}
+use Rattle.shell.specs.Shell.{decides, long_both, refuses}
 use Rattle.shell.proofs.within.Statement.{statement}
 use Rattle.shell.proofs.within.Tie as tie
-
-finish_requires : tie.Need-finish-requires
-finish_requires c κs =
-    let opened = c.before.before.before.before.before in
-    let start = opened.before.before.before.before.before.before.before.before in
-    let one = answer_long start.args.call _ start.requires.1.0 in
-    let long = start.requires.1.1 in
-    omega arith
 
 returns : tie.Need-returns
 returns c =
@@ -41,9 +33,7 @@ finish_requires_2 : tie.Need-finish-requires-2
 finish_requires_2 c κs =
     let decide = c.before.before.before.before.before.before.before in
     let opened = decide.before.before.before.before.before.before.before.before in
-    let start = opened.before.before.before.before.before.before.before.before in
-    let one = answer_long start.args.call _ start.requires.1.0 in
-    let long = start.requires.1.1 in
+    let long = opened.before.before.before.before.before.before.before.before.requires.1.1 in
     let same = decide.decide.auto.1.1.1.1.1.0 in
     omega arith
 
@@ -67,6 +57,6 @@ returns_2 c =
 pub within_spec : {M : Type 1} → statement M
 within_spec =
     tie.close
-    (tie.spec (λ c κs. search rules) (λ c κs. search rules) (λ c κs. search rules) finish_requires
+    (tie.spec (λ c κs. search rules) (λ c κs. search rules) (λ c κs. search rules) (λ c κs. search rules)
     (λ c. search rules) (λ c. search rules) (λ c. search rules) returns decide_requires finish_requires_2
     (λ c. search rules) (λ c. search rules) (λ c. search rules) returns_2)

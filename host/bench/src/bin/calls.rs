@@ -15,8 +15,7 @@ use std::time::Instant;
 mod cases;
 #[path = "../../../calls/src/library.rs"]
 mod library;
-use cases::{cases, Case, BOOKS, LINES, QUIET_FEED};
-use library::run_of;
+use cases::{cases, library_run, Case, BOOKS, LINES, QUIET_FEED};
 
 const ROUNDS: usize = 101;
 
@@ -63,7 +62,7 @@ fn lines(records: usize, rounds: usize) -> Vec<Line> {
         let [mut copy, mut proved, mut fast, mut second] = [const { Vec::new() }; 4];
         // The first round of each warms the caches and is not counted.
         for at in 0..=rounds {
-            let by_library = round(run_of(call), &books, &mut areas, cases);
+            let by_library = round(library_run(call), &books, &mut areas, cases);
             let by_yardstick = (call == Call::Result).then(|| {
                 round(
                     |a, b, c| yardstick.result(a, b, c),

@@ -58,11 +58,6 @@ pub fn version() -> String {
         .into_owned()
 }
 
-/// What a database is told before its tables are filled. In memory the journal is there for ROLLBACK alone: without it
-/// a refused result could not be undone.
-pub const JOURNAL_IN_MEMORY: &str = "PRAGMA journal_mode = MEMORY; PRAGMA foreign_keys = OFF";
-pub const NO_JOURNAL: &str = "PRAGMA journal_mode = OFF; PRAGMA foreign_keys = OFF";
-
 pub struct Database {
     at: *mut c_void,
 }

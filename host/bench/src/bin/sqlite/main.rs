@@ -7,16 +7,16 @@
 
 use bench::yardstick::Yardstick;
 use bench::{count_asked, Spread, SIZES};
-use database::{Database, JOURNAL_IN_MEMORY, NO_JOURNAL};
+use database::Database;
 use posting::Posting;
 use second::calls::{Call, BAD_INPUT, NO_ROOM};
-use second::record::{Row, LOT_HISTORY, RECORD};
+use second::record::{rows_of, Row, LOT_HISTORY, RECORD};
 use second::rng::Rng;
 use second::runs;
 use std::collections::BTreeSet;
 use std::hint::black_box;
 use std::time::Instant;
-use workload::{sorted_rows, Workload};
+use workload::Workload;
 
 mod database;
 mod posting;
@@ -25,24 +25,39 @@ mod workload;
 
 #[path = "../../../../calls/src/library.rs"]
 mod library;
-use library::{run_of, Run};
+use library::{Run, CALLS};
 
 const ROUNDS: usize = 21;
 /// About how many results a round posts at least.
 const RESULTS: usize = 500;
 
-/// What SQLite is told before the tables are filled.
+/// What SQLite is told before the tables are filled. In memory the journal is there for ROLLBACK alone: without it a
+/// refused result could not be undone.
 const WAYS: [(&str, &str); 3] = [
-    ("journal in memory", JOURNAL_IN_MEMORY),
+    (
+        "journal in memory",
+        "PRAGMA journal_mode = MEMORY; PRAGMA foreign_keys = OFF",
+    ),
     (
         "the same, with foreign keys",
         "PRAGMA journal_mode = MEMORY; PRAGMA foreign_keys = ON",
     ),
-    ("no journal", NO_JOURNAL),
+    (
+        "no journal",
+        "PRAGMA journal_mode = OFF; PRAGMA foreign_keys = OFF",
+    ),
 ];
 
 /// How many random lists of results are posted by both before anything is measured.
 const LISTS: u64 = 200;
+
+/// The rows of a book, sorted.
+fn sorted_rows(book: &[u8]) -> Vec<Row> {
+    let mut rows = rows_of(book);
+    rows.retain(|row| !row.is_free());
+    rows.sort();
+    rows
+}
 
 /// Sees that the statements do what book_result does, refusals too: random lists of results, with every status, answer
 /// and row compared. Tables have no inputs that break a field's rule and are never full, so an input of the first kind
@@ -124,7 +139,10 @@ fn by_sqlite(pragmas: &str, work: &Workload) -> (f64, End) {
 
 fn main() {
     let rounds = count_asked("ROUNDS", ROUNDS);
-    let run = run_of(Call::Result);
+    let (_, run) = *CALLS
+        .iter()
+        .find(|(call, _)| *call == Call::Result)
+        .unwrap();
     compare(run);
     println!(
         "a result by book_result, the yardstick and SQLite {} in memory, one transaction each: {rounds} rounds, in",

@@ -140,16 +140,6 @@ impl<'a> Posting<'a> {
         answer
     }
 
-    /// The results as one transaction, in turn: the answer or the status of each. One that is refused after something
-    /// was written is not undone.
-    #[allow(dead_code)] // in `sqlite`
-    pub fn batch(&self, inputs: &[Row]) -> Vec<Result<Row, i32>> {
-        self.begin.run(&[]).expect("no transaction is open");
-        let answers = inputs.iter().map(|input| self.post(input)).collect();
-        self.commit.run(&[]).expect("a transaction is open");
-        answers
-    }
-
     /// The first row that a statement gives, by these columns.
     fn one<const N: usize>(&self, statement: &Statement, values: &[Value]) -> Option<[i64; N]> {
         let mut rows = statement.start(values);

@@ -10,14 +10,6 @@ pub struct Workload {
     pub results: Vec<Row>,
 }
 
-/// The rows of a book, sorted.
-pub fn sorted_rows(book: &[u8]) -> Vec<Row> {
-    let mut rows = rows_of(book);
-    rows.retain(|row| !row.is_free());
-    rows.sort();
-    rows
-}
-
 /// A book of so many records and its results. Every result is accepted by the second program, one after the other.
 pub fn of(records: usize) -> Workload {
     let most = records / 5;

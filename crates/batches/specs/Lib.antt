@@ -1,4 +1,0 @@
-pub mod Statement
-pub mod Single
-pub mod InTurn
-pub mod Results

@@ -1,1 +1,0 @@
-// That a batch is its single calls made in turn, and demand 3 for batches of results. Nothing runs here.
