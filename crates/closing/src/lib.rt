@@ -1,5 +1,6 @@
 // The lots that a trade closes: gathered by the directory of the book, put in the order in which they are closed, and
 // walked over.
+#![tactic(auto)]
 ghost use Rattle.std.specs.Prelude.{map, ◌≡◌, ◌+◌, ◌<◌, ◌≤◌, pos, length, set, take};
 ghost use Rattle.std.specs.Int.Signed.{lt_z};
 ghost use Rattle.laws.specs.Search.{bit};

@@ -1,1 +1,2 @@
 // Rules of which demand 3 is false. Nothing here runs.
+#![tactic(auto)]

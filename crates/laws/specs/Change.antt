@@ -2,7 +2,7 @@
 -- row equal to it stands first. Assumes nothing.
 use Rattle.std.specs.Prelude.{◌≡◌, Bool, cond, ℕ, ◌+◌, ◌≤◌, leb}
 use Rattle.std.proofs.Math.Path.{refl, ap}
-use Rattle.std.proofs.Common.{sym, ◌∙◌}
+use Rattle.std.proofs.Common.{sym, ◌∙◌, subst}
 use Rattle.std.proofs.Math.Bool.{true, false}
 use Rattle.std.proofs.lemmas.Bool.{false≢true}
 use mathlib.Core.List.Memᴰ
@@ -115,7 +115,11 @@ module _ {A : Type 0} (same : A → A → Bool) (tells : (a b : A) → same a b 
         go : (leb 1 (count p l) ≡ true → put same (the p d l) n l ≡ set l (place p l) n) → (t : Bool) → p x ≡ t
             → put same (the p d (x ∷ l)) n (x ∷ l) ≡ set (x ∷ l) (place p (x ∷ l)) n
         go ih true e = rw (e, itself x)
-        go ih false e = let k = left x l h e in rw (e, later x l k e, seek_suc p 0 l, ih k)
+        go ih false e =
+            let k = left x l h e in
+            let found : the p d (x ∷ l) ≡ the p d l = rw e in
+            subst (λ (o : A). put same o n (x ∷ l) ≡ set (x ∷ l) (place p (x ∷ l)) n) (sym found)
+            (rw (e, later x l k e, seek_suc p 0 l, ih k))
 
   module _ (itself : (a : A) → same a a ≡ true) (p : A → Bool) (d n : A) (now : p n ≡ true) where
     pub the_same : (l : List A) → leb 1 (count p l) ≡ true → the p d (put same (the p d l) n l) ≡ n
@@ -126,7 +130,11 @@ module _ {A : Type 0} (same : A → A → Bool) (tells : (a b : A) → same a b 
         go : (leb 1 (count p l) ≡ true → the p d (put same (the p d l) n l) ≡ n) → (t : Bool) → p x ≡ t
             → the p d (put same (the p d (x ∷ l)) n (x ∷ l)) ≡ n
         go ih true e = rw (e, itself x, now)
-        go ih false e = let k = left itself p d n x l h e in rw (e, later itself p d n x l k e, e) (ih k)
+        go ih false e =
+            let k = left itself p d n x l h e in
+            let found : the p d (x ∷ l) ≡ the p d l = rw e in
+            subst (λ (o : A). the p d (put same o n (x ∷ l)) ≡ n) (sym found)
+            (rw (later itself p d n x l k e, e) (ih k))
 
 -- ---- rows put one after the other
 module _ {A : Type 0} (same : A → A → Bool) where

@@ -142,6 +142,7 @@ module _ {A : Type 0} where
       count_one p (the p d l) x l c (the_has p d l some) m (the_passes p d l some) e
 
   pub mem_map : {B : Type 0} (f : A → B) (x : A) (l : List A) → Memᴰ x l → Memᴰ (f x) (map f l)
+  mem_map {B = B} f x [] m = elim m [ ]
   mem_map f x (y ∷ l) (Memᴰ.head q) = rw q (Memᴰ.head refl)
   mem_map f x (y ∷ l) (Memᴰ.tail m) = Memᴰ.tail (mem_map f x l m)
 

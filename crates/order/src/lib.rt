@@ -1,4 +1,5 @@
 // Trade-Order, on a book that is known to be sound and its directory: judged on the book as it is, and then posted.
+#![tactic(auto)]
 ghost use Rattle.std.specs.Prelude.{◌≡◌, true, length};
 ghost use Rattle.record.specs.Grid.{decode};
 ghost use Rattle.rules.specs.Rules.{order_input};

@@ -137,6 +137,7 @@ pub fn copy(to: &mut [u8], from: &[u8])
 
 impl Row {
     // The row of a record's bytes.
+    #[tactic(auto, unfolding(crate::specs::Grid::decode))]
     pub fn read(part: &[u8]) -> Row
         requires { length part.now ≡ 64 }
         ensures { result ≡ decode part.now }

@@ -108,6 +108,7 @@ impl Symbol {
         ]
     }
 
+    #[tactic(auto, unfolding(crate::specs::Symbol::same_symbol))]
     pub fn same(self, other: Symbol) -> bool
         ensures { result ≡ same_symbol self other }
     {
@@ -121,6 +122,7 @@ impl Symbol {
     }
 
     // One to seven letters, then zeros; the last byte is the fence.
+    #[tactic(auto, unfolding(crate::specs::Spelling::symbol_ok))]
     pub fn ok(self) -> bool
         ensures { result ≡ symbol_ok self }
     {

@@ -1,4 +1,5 @@
 // How a call ends: the first check that fails, the number of its status, and the answer of a refusal.
+#![tactic(auto)]
 ghost use Rattle.std.specs.Prelude.{◌≡◌, Bool, not, ◌≤◌, length, replicate};
 ghost use Rattle.model.specs.Band.{no_band, zero_rate};
 ghost use Rattle.model.specs.Status.{is_done, number};
