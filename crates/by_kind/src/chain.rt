@@ -12,7 +12,7 @@ use record::codes::Kind;
 use record::row::Grid;
 
 // The first place of each kind, and then, for each place, the next of its kind. The number of records stands for none.
-#[derive(Drop)]
+#[derive(Clone, Copy)]
 pub struct Links {}
 
 impl Links {

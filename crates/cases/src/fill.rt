@@ -5,7 +5,7 @@ use crate::text::{find, number};
 use check::same;
 use record::row::put;
 
-#[derive(Drop)]
+#[derive(Clone, Copy)]
 struct Place(usize, usize);
 
 // The first byte of a field and how many it has, by the field's name. The symbol is none of these: it is no number.

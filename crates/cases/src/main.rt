@@ -12,7 +12,7 @@ use fill::set_all;
 use text::find;
 
 // A good record, and where its name stands in the text.
-#[derive(Drop)]
+#[derive(Clone, Copy)]
 struct Good {
     bytes: [u8; 64],
     from: usize,

@@ -26,7 +26,7 @@ use written::{lot_after, lot_history};
 
 // What is told of the lots that are closed: how many go, those at the first places, and what is left of the next one,
 // which is closed in part (0: there is none).
-#[derive(Drop)]
+#[derive(Clone, Copy)]
 pub struct Closed {
     pub totals: Totals,
     pub gone: usize,

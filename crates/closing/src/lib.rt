@@ -26,7 +26,7 @@ use units::AccountNo;
 use walk::Walk;
 
 // Whose lots a trade closes, of which symbol, on which side, and in which order.
-#[derive(Drop)]
+#[derive(Clone, Copy)]
 pub struct Sought {
     // The trade buys, and closes lots that are owed.
     pub buying: bool,

@@ -7,7 +7,7 @@ use record::row::Row;
 use units::TradeNo;
 
 // The number of free places, and the largest trade number, 0 where there is no trade.
-#[derive(Drop)]
+#[derive(Clone, Copy)]
 pub struct Totals {
     pub free: usize,
     pub largest: TradeNo,

@@ -20,7 +20,7 @@ use sorted::Sorted;
 use units::{Cents, Price};
 use walk::Walk;
 
-#[derive(Drop)]
+#[derive(Clone, Copy)]
 pub struct Estimate {
     pub price: Price,
     pub walk: Walk,

@@ -22,14 +22,14 @@ use record::symbol::Symbol;
 use units::{AccountNo, Cents, CustomerNo, ExecutorNo, PerHundredThousand, TradeNo};
 
 // An account, and whether it is there.
-#[derive(Drop)]
+#[derive(Clone, Copy)]
 pub struct Holder {
     pub row: Account,
     pub known: bool,
 }
 
 // A security, and whether it is there.
-#[derive(Drop)]
+#[derive(Clone, Copy)]
 pub struct Paper {
     pub row: Security,
     pub known: bool,
@@ -37,7 +37,7 @@ pub struct Paper {
 
 // All that an order reads, but for the lots and the room. A row that is not there is one of zeros, and so is what it
 // would have told; of the band, the answer says whether it is there.
-#[derive(Drop)]
+#[derive(Clone, Copy)]
 pub struct Terms {
     pub holder: Holder,
     pub permitted: bool,

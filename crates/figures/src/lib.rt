@@ -24,7 +24,7 @@ use sorted::Sorted;
 use units::{Cents, Shares};
 use walk::Walk;
 
-#[derive(Drop)]
+#[derive(Clone, Copy)]
 pub struct Figures {
     pub walk: Walk,
     pub tax: Cents,

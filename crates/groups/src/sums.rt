@@ -66,7 +66,7 @@ pub fn overlapping(book: &[u8], dir: &[u16], i: usize) -> usize
 }
 
 // A sum of tax rates, which may be more than any rate is.
-#[derive(Drop)]
+#[derive(Clone, Copy)]
 pub struct RateSum(u64);
 
 impl RateSum {
@@ -133,7 +133,7 @@ pub fn tax_rates(book: &[u8], dir: &[u16], customer: CustomerNo) -> PerHundredTh
 }
 
 // A holding: how many lots, and the shares held and owed.
-#[derive(Drop)]
+#[derive(Clone, Copy)]
 pub struct Held {
     pub lots: usize,
     pub long: Shares,

@@ -29,7 +29,7 @@ use units::TradeNo;
 
 // Eight marks for each place: a trade's are those of its request (0), its histories (their status), its lot (5), its
 // settlement (6) and its cash (7).
-#[derive(Drop)]
+#[derive(Clone, Copy)]
 pub struct Marks {}
 
 impl Marks {

@@ -15,7 +15,7 @@ use record::codes::Kind;
 use record::row::Row;
 use record::symbol::Symbol;
 
-#[derive(Drop)]
+#[derive(Clone, Copy)]
 pub struct Key {
     pub kind: u8,
     pub form: u8,

@@ -11,7 +11,7 @@ use record::symbol::Symbol;
 use units::{AccountNo, ExecutorNo, Price, Shares, Time, TradeNo};
 
 // What an order is given. Executor 0 is the owner of the account.
-#[derive(Drop)]
+#[derive(Clone, Copy)]
 pub struct OrderInput {
     pub trade_type: u8,
     pub flags: u8,
@@ -62,7 +62,7 @@ impl OrderInput {
 }
 
 // What a result is given.
-#[derive(Drop)]
+#[derive(Clone, Copy)]
 pub struct ResultInput {
     pub trade: TradeNo,
     pub price: Price,
@@ -94,7 +94,7 @@ impl ResultInput {
 }
 
 // An entry of a feed.
-#[derive(Drop)]
+#[derive(Clone, Copy)]
 pub struct FeedInput {
     pub symbol: Symbol,
     pub price: Price,
@@ -132,7 +132,7 @@ impl FeedInput {
 }
 
 // A trade that is looked up.
-#[derive(Drop)]
+#[derive(Clone, Copy)]
 pub struct LookupInput {
     pub trade: TradeNo,
 }

@@ -2,17 +2,17 @@
 // fields that make the key. Every number of the rules stands here or with its kind, once.
 
 // The lowest number and the highest.
-#[derive(Drop)]
+#[derive(Clone, Copy)]
 pub struct R8(pub u8, pub u8);
 
-#[derive(Drop)]
+#[derive(Clone, Copy)]
 pub struct R32(pub u32, pub u32);
 
-#[derive(Drop)]
+#[derive(Clone, Copy)]
 pub struct R64(pub u64, pub u64);
 
 // A range for each field of a row.
-#[derive(Drop)]
+#[derive(Clone, Copy)]
 pub struct Limits {
     pub kind: R8,
     pub form: R8,
@@ -53,7 +53,7 @@ impl Limits {
 }
 
 // A rule that compares fields.
-#[derive(Drop)]
+#[derive(Clone, Copy)]
 pub enum Clause {
     Nothing,
     // A band's from is at most its to.
@@ -69,7 +69,7 @@ pub enum Clause {
 }
 
 // What a kind asks that is no range.
-#[derive(Drop)]
+#[derive(Clone, Copy)]
 pub struct Beyond {
     // How far from zero the signed number m1 may be; zero where that is not asked.
     pub m1: u64,
@@ -90,14 +90,14 @@ impl Beyond {
 }
 
 // The rule of a kind of input.
-#[derive(Drop)]
+#[derive(Clone, Copy)]
 pub struct Rule {
     pub limits: Limits,
     pub beyond: Beyond,
 }
 
 // The fields that make a key.
-#[derive(Drop)]
+#[derive(Clone, Copy)]
 pub struct Marks {
     pub form: bool,
     pub status: bool,
@@ -135,7 +135,7 @@ impl Marks {
 }
 
 // The ranges that several kinds share.
-#[derive(Drop)]
+#[derive(Clone, Copy)]
 pub struct Ranges {}
 
 impl Ranges {

@@ -19,7 +19,7 @@ use units::{
 };
 
 // The row of a free record.
-#[derive(Drop)]
+#[derive(Clone, Copy)]
 pub struct Blank {}
 
 impl Blank {
@@ -43,7 +43,7 @@ impl Blank {
 }
 
 // Kind 1, a broker: the number of trades completed and the commission earned.
-#[derive(Drop)]
+#[derive(Clone, Copy)]
 pub struct Broker {
     pub no: BrokerNo,
     pub trades: u32,
@@ -96,7 +96,7 @@ impl Broker {
 }
 
 // Kind 2, a customer of tier 1 to 3.
-#[derive(Drop)]
+#[derive(Clone, Copy)]
 pub struct Customer {
     pub no: CustomerNo,
     pub tier: u8,
@@ -132,7 +132,7 @@ impl Customer {
 }
 
 // Kind 3, a tax rate.
-#[derive(Drop)]
+#[derive(Clone, Copy)]
 pub struct TaxRate {
     pub no: RateNo,
     pub rate: PerHundredThousand,
@@ -168,7 +168,7 @@ impl TaxRate {
 }
 
 // Kind 4, a tax rate that a customer is under.
-#[derive(Drop)]
+#[derive(Clone, Copy)]
 pub struct CustomerRate {
     pub customer: CustomerNo,
     pub rate: RateNo,
@@ -207,7 +207,7 @@ impl CustomerRate {
 }
 
 // Kind 5, an account of a customer with a broker.
-#[derive(Drop)]
+#[derive(Clone, Copy)]
 pub struct Account {
     pub no: AccountNo,
     pub tax_status: u8,
@@ -275,7 +275,7 @@ impl Account {
 }
 
 // Kind 6, a security, its last price and the volume traded.
-#[derive(Drop)]
+#[derive(Clone, Copy)]
 pub struct Security {
     pub symbol: Symbol,
     pub exchange: u8,
@@ -347,7 +347,7 @@ impl Security {
 }
 
 // Kind 7, the commission rate for a number of shares, from and to.
-#[derive(Drop)]
+#[derive(Clone, Copy)]
 pub struct Band {
     pub trade_type: u8,
     pub tier: u8,
@@ -412,7 +412,7 @@ impl Band {
 }
 
 // Kind 8, the charge for a trade.
-#[derive(Drop)]
+#[derive(Clone, Copy)]
 pub struct Charge {
     pub trade_type: u8,
     pub tier: u8,
@@ -457,7 +457,7 @@ impl Charge {
 }
 
 // Kind 9, a trade.
-#[derive(Drop)]
+#[derive(Clone, Copy)]
 pub struct Trade {
     pub no: TradeNo,
     pub trade_type: u8,
@@ -578,7 +578,7 @@ impl Trade {
 }
 
 // Kind 10, a trade that waits for its price.
-#[derive(Drop)]
+#[derive(Clone, Copy)]
 pub struct Request {
     pub no: TradeNo,
     pub trade_type: u8,
@@ -653,7 +653,7 @@ impl Request {
 }
 
 // Kind 11, when a trade took a status.
-#[derive(Drop)]
+#[derive(Clone, Copy)]
 pub struct TradeHistory {
     pub no: TradeNo,
     pub status: u8,
@@ -708,7 +708,7 @@ impl TradeHistory {
 }
 
 // Kind 12, the shares that are left of what a trade opened; below zero where it sold short.
-#[derive(Drop)]
+#[derive(Clone, Copy)]
 pub struct Lot {
     pub no: TradeNo,
     pub account: AccountNo,
@@ -785,7 +785,7 @@ impl Lot {
 }
 
 // Kind 13, an account's shares of a security.
-#[derive(Drop)]
+#[derive(Clone, Copy)]
 pub struct Summary {
     pub account: AccountNo,
     pub symbol: Symbol,
@@ -846,7 +846,7 @@ impl Summary {
 }
 
 // Kind 14, how a trade changed a lot.
-#[derive(Drop)]
+#[derive(Clone, Copy)]
 pub struct LotHistory {
     pub lot: TradeNo,
     pub by: TradeNo,
@@ -913,7 +913,7 @@ impl LotHistory {
 }
 
 // Kind 15, what a trade came to.
-#[derive(Drop)]
+#[derive(Clone, Copy)]
 pub struct Settlement {
     pub no: TradeNo,
     pub cash: u8,
@@ -975,7 +975,7 @@ impl Settlement {
 }
 
 // Kind 16, what a cash trade did to the account's balance.
-#[derive(Drop)]
+#[derive(Clone, Copy)]
 pub struct Cash {
     pub no: TradeNo,
     pub amount: Cents,
@@ -1031,7 +1031,7 @@ impl Cash {
 }
 
 // Kind 17, who may order for an account beside its owner.
-#[derive(Drop)]
+#[derive(Clone, Copy)]
 pub struct Permission {
     pub account: AccountNo,
     pub executor: ExecutorNo,

@@ -4,7 +4,7 @@
 use units::PerTenThousand;
 
 // What the search for a commission band answers: `band_answer` of specs/Band.antt says which of the three, and when.
-#[derive(Drop)]
+#[derive(Clone, Copy)]
 pub enum BandAnswer {
     Rate(PerTenThousand),
     ZeroRate,
@@ -12,7 +12,7 @@ pub enum BandAnswer {
 }
 
 // How a call ends. The number of each is `number` of specs/Status.antt.
-#[derive(Drop)]
+#[derive(Clone, Copy)]
 pub enum Status {
     Done,
     BadLength,

@@ -23,7 +23,7 @@ use record::symbol::Symbol;
 use units::{CustomerNo, PerHundredThousand, TradeNo};
 
 // Where the rows of a result stand, but for its lots; the number of places where there is none.
-#[derive(Drop)]
+#[derive(Clone, Copy)]
 pub struct Places {
     pub trade: usize,
     pub account: usize,
@@ -33,7 +33,7 @@ pub struct Places {
 
 // A row that is not there is that of a free record, and so is what it would have told; of the band, the answer says
 // whether it is there.
-#[derive(Drop)]
+#[derive(Clone, Copy)]
 pub struct Terms {
     pub at: Places,
     // The trade is there, and so is a summary.

@@ -1,5 +1,5 @@
 // The numbers that stand for a kind of record, a trade type and a trade status.
-#[derive(Drop)]
+#[derive(Clone, Copy)]
 pub struct Kind {}
 
 impl Kind {
@@ -52,7 +52,7 @@ impl Kind {
 }
 
 // Market buy and sell, limit buy and sell, stop loss.
-#[derive(Drop)]
+#[derive(Clone, Copy)]
 pub struct TradeType {}
 
 impl TradeType {
@@ -67,7 +67,7 @@ impl TradeType {
     pub const TSL: u8 = 5;
 }
 
-#[derive(Drop)]
+#[derive(Clone, Copy)]
 pub struct TradeStatus {}
 
 impl TradeStatus {

@@ -10,7 +10,7 @@ use crate::symbol::Symbol;
 
 // The fifteen fields in the order of their bytes. `form` is the field that the rules call type; a signed field stands
 // as its bits.
-#[derive(Drop)]
+#[derive(Clone, Copy)]
 pub struct Row {
     pub kind: u8,
     pub form: u8,
@@ -30,7 +30,7 @@ pub struct Row {
 }
 
 // The places of the fields, and the size of a record.
-#[derive(Drop)]
+#[derive(Clone, Copy)]
 pub struct Grid {}
 
 impl Grid {

@@ -7,7 +7,7 @@ ghost use Rattle.record.specs.Spelling.{follows, letter, symbol_ok};
 
 use crate::bytes;
 
-#[derive(Drop)]
+#[derive(Clone, Copy)]
 pub struct Symbol(pub u64);
 
 // The number with its four bytes in the other order.

@@ -16,7 +16,7 @@ use record::bytes::bits32;
 use record::row::Row;
 
 // How an inner call ends: its status, and the totals of the book that it leaves.
-#[derive(Drop)]
+#[derive(Clone, Copy)]
 pub struct Ended {
     pub status: Status,
     pub totals: Totals,

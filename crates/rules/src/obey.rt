@@ -47,7 +47,7 @@ fn bound32(t: bool, most: u32, x: u32, y: u32) -> bool
 }
 
 // A symbol that is spelled right.
-#[derive(Drop)]
+#[derive(Clone, Copy)]
 pub struct Spelt {}
 
 impl Spelt {

@@ -20,7 +20,7 @@ use result::result;
 use sound::whole::whole;
 
 // The calls that change a book.
-#[derive(Drop)]
+#[derive(Clone, Copy)]
 pub enum Call {
     Order,
     Result,

@@ -4,7 +4,7 @@ use by_kind::chain::Links;
 use hanging::Marks;
 use kinds::limits::Ranges;
 
-#[derive(Drop)]
+#[derive(Clone, Copy)]
 pub struct Small {}
 
 impl Small {
@@ -17,7 +17,7 @@ impl Small {
     pub const MARKS: usize = Marks::EACH * Small::RECORDS;
 }
 
-#[derive(Drop)]
+#[derive(Clone, Copy)]
 pub struct Middle {}
 
 impl Middle {
@@ -31,7 +31,7 @@ impl Middle {
 }
 
 // As many records as any book has.
-#[derive(Drop)]
+#[derive(Clone, Copy)]
 pub struct Large {}
 
 impl Large {

@@ -11,7 +11,7 @@ ghost use Rattle.units.specs.Units.{cents, low, shares, signed_most};
 use record::bytes;
 
 // A count of shares, below zero for what is owed.
-#[derive(Drop)]
+#[derive(Clone, Copy)]
 pub struct Shares(pub i64);
 
 impl Shares {
@@ -78,7 +78,7 @@ impl Shares {
 }
 
 // Money. What is worked out with it stays below 2^62, so that a debugger shows it as it is (2026-06).
-#[derive(Drop)]
+#[derive(Clone, Copy)]
 pub struct Cents(pub i64);
 
 impl Cents {
@@ -180,39 +180,39 @@ fn lower(x: u64) -> u32
 }
 
 // Cents for one share.
-#[derive(Drop)]
+#[derive(Clone, Copy)]
 pub struct Price(pub u32);
 
-#[derive(Drop)]
+#[derive(Clone, Copy)]
 pub struct TradeNo(pub u64);
 
-#[derive(Drop)]
+#[derive(Clone, Copy)]
 pub struct AccountNo(pub u32);
 
-#[derive(Drop)]
+#[derive(Clone, Copy)]
 pub struct BrokerNo(pub u32);
 
-#[derive(Drop)]
+#[derive(Clone, Copy)]
 pub struct CustomerNo(pub u32);
 
 // The number of a tax rate.
-#[derive(Drop)]
+#[derive(Clone, Copy)]
 pub struct RateNo(pub u32);
 
 // Who may order for an account beside its owner; 0 is the owner.
-#[derive(Drop)]
+#[derive(Clone, Copy)]
 pub struct ExecutorNo(pub u32);
 
 // A tax rate.
-#[derive(Drop)]
+#[derive(Clone, Copy)]
 pub struct PerHundredThousand(pub u32);
 
 // A commission rate, in hundredths of a percent.
-#[derive(Drop)]
+#[derive(Clone, Copy)]
 pub struct PerTenThousand(pub u32);
 
 // Seconds from 2000-01-01.
-#[derive(Drop)]
+#[derive(Clone, Copy)]
 pub struct Time(pub u32);
 
 fn signed_at(part: &[u8], at: usize) -> i64

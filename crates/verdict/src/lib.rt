@@ -18,7 +18,7 @@ use rules::limited::near64;
 use units::{Cents, Shares};
 
 // The most trades and the highest commission total of a broker.
-#[derive(Drop)]
+#[derive(Clone, Copy)]
 struct Most {}
 
 impl Most {

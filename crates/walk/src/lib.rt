@@ -41,7 +41,7 @@ fn counted(closed: usize, need: Shares) -> usize
     }
 }
 
-#[derive(Drop)]
+#[derive(Clone, Copy)]
 pub struct Walk {
     // The trade buys, and closes lots that are owed.
     pub buying: bool,
