@@ -1,12 +1,15 @@
 // Reads a book of at most 1,024 records from standard input, and prints how many trades it has of each type and
 // status, or that it is refused.
 #![tactic(auto)]
+
 ghost use Rattle.std.specs.Prelude.{◌≡◌, ◌≤◌, length, take};
-ghost use Rattle.io.specs.Counts.{IsPrefixLen};
+ghost use Rattle.tally.specs.Page.{IsPrefixLen};
 ghost use Rattle.tally.specs.Text.{answer};
 
+mod input;
 mod text;
 
+use input::read_full;
 use model::Status;
 use record::row::Grid;
 use text::{put, put_square};
@@ -32,10 +35,10 @@ const AREA: usize = MOST_RECORDS * Grid::SIZE + 1;
 // Five lines of at most 67 bytes.
 const PAGE: usize = 335;
 
-fn main() {
+fn main(rt: HostRuntime) {
     let mut area = [0u8; AREA];
-    let n = io::read_full(0, &mut area);
+    let n = read_full(&mut rt.stdin(), &mut area);
     let mut page = [0u8; PAGE];
     let k = answer(&area[..n], &mut page);
-    io::write_all(1, &page[..k]);
+    let _ = rt.write_all(&page[..k]);
 }
