@@ -1,5 +1,5 @@
 -- What a call leaves in its areas before its end: what it decided where it is done, and what was there where it is
--- not; and what the end makes of that. Assumes nothing.
+-- not; and what the end makes of that.
 use Rattle.std.specs.Prelude.{◌≡◌, refl, Bool, true, false, List, [], ◌∷◌, ℕ, ℤ, length, drop}
 use Rattle.std.proofs.Common.{sym, ap, ◌∙◌, arith, drop_of_length-le}
 use Rattle.laws.specs.Chunk.{joined}

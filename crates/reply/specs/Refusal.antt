@@ -1,4 +1,4 @@
--- The answer of a refusal: the area cleared, and the status in bytes 60-63. Assumes nothing.
+-- The answer of a refusal: the area cleared, and the status in bytes 60-63.
 use Rattle.std.specs.Prelude.{◌≡◌, refl, Bool, true, false, List, [], ◌∷◌, ◌++◌, ℕ, zero, suc, ◌+◌, ◌-◌, ◌/◌, ◌≤◌, ◌<◌, length, drop, replicate, set, take}
 use Rattle.std.proofs.Common.{sym, ap, ◌∙◌, add-one, arith, take_all, take-suc-set, of_z}
 use Rattle.std.proofs.Math.Nat.{suc-sub-suc, sub-zero, zero-sub}

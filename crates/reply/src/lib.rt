@@ -1,7 +1,8 @@
 // How a call ends: the first check that fails, the number of its status, and the answer of a refusal.
 #![tactic(auto)]
+
 ghost use Rattle.std.specs.Prelude.{◌≡◌, Bool, not, ◌≤◌, length, replicate};
-ghost use Rattle.model.specs.Band.{no_band, zero_rate};
+ghost use Rattle.model.specs.Band.{no_band as has_no_band, zero_rate};
 ghost use Rattle.model.specs.Status.{is_done, number};
 ghost use Rattle.model.specs.Call.{either, refusal_area};
 ghost use Rattle.model.specs.Rows.{record_size};
@@ -94,7 +95,7 @@ pub fn also(s: Status, passes: bool, otherwise: Status) -> Status
 
 // The status so far, and what the search for a band answered: a rate of zero and no band each have their own status.
 pub fn also_rated(s: Status, band: BandAnswer, no_rate: Status, no_band: Status) -> Status
-    ensures { result ≡ also (also s (not (zero_rate band)) no_rate) (not (no_band band)) no_band }
+    ensures { result ≡ also (also s (not (zero_rate band)) no_rate) (not (has_no_band band)) no_band }
 {
     match band {
         BandAnswer::Rate(_) => s,
