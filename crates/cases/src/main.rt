@@ -6,12 +6,11 @@ ghost use Rattle.std.specs.Prelude.{◌≤◌, length};
 
 mod checked;
 mod fill;
-mod input;
 mod text;
 
 use checked::accepted;
 use fill::set_all;
-use input::read_full;
+use intake::read_full;
 use text::find;
 
 // A good record, and where its name stands in the text.
