@@ -1,5 +1,6 @@
 // The rules of the four kinds of input, decided on the record's own bytes: what breaks one is -103.
 #![tactic(auto)]
+
 ghost use Rattle.std.specs.Prelude.{◌≡◌, cond, length};
 ghost use Rattle.laws.specs.Search.{every};
 ghost use Rattle.record.specs.Grid.{decode};

@@ -1,6 +1,6 @@
 -- One row in the place of another, and rows that a map changes: what is made of each row, found and summed where
 -- neither changes what is looked at. Assumes nothing.
-use Rattle.std.specs.Prelude.{◌≡◌, Bool, cond, ◌+◌, ◌≤◌, ℤ, ◌+ℤ◌}
+use Rattle.std.specs.Prelude.{◌≡◌, Bool, cond, ◌≤◌, ℤ, ◌+ℤ◌}
 use Rattle.std.proofs.Math.Path.{refl, ap}
 use Rattle.std.proofs.Common.{◌∙◌, arith}
 use Rattle.std.proofs.Math.Bool.{true, false}

@@ -34,6 +34,7 @@ use Rattle.preserved.specs.ResultTrades.{number_is}
 -- ---- the largest
 largest_most : {A : Type 0} (f : A → ℕ) (x : A) (l : List A) → Memᴰ x l → f x ≤ largest f l
 unfolding largest
+largest_most {A = A} f x [] m = elim m [ ]
 largest_most f x (y ∷ l) (Memᴰ.head q) = let e : f x ≡ f y = ap f q in omega arith
 largest_most f x (y ∷ l) (Memᴰ.tail m) = let h = largest_most f x l m in omega arith
 
@@ -51,9 +52,9 @@ pub record Taken (rs : List Row) (input : Row) (broker number price charge commi
   pub broker_is : (found (an_account input.party) rs).n1 ≡ broker
   pub security : There (a_security input.symbol) rs
   pub next : number ≡ largest trade_id rs + 1
-  pub number_most_holds : number ≤ trade_number.high
+  pub number_most : number ≤ trade_number.high
   pub price_least : 1 ≤ price
-  pub price_most_holds : price ≤ price_most
+  pub price_most : price ≤ price_most
   pub charge_most : charge ≤ charged.high
   pub commission_most : commission ≤ fee.high
   pub space : length (added_rows input broker number price charge commission) ≤ count (same_row nothing) rs

@@ -135,9 +135,9 @@ module _ (rs : List Row) (input : Row) (good : sound rs ≡ true) (right : order
     broker_is = refl;
     security = is_there (a_security input.symbol) ok.security;
     next = refl;
-    number_most_holds = ok.number;
+    number_most = ok.number;
     price_least = cost_least ok.security;
-    price_most_holds = cost_most;
+    price_most = cost_most;
     charge_most = charge_most input.form (found (a_customer v.account.n2) rs).form;
     commission_most = commission_most;
     space =

@@ -1,5 +1,5 @@
 -- Each row that comes with a result fits the grid. Assumes nothing.
-use Rattle.std.specs.Prelude.{◌≡◌, refl, Bool, true, false, cond, [], ◌∷◌, ℕ, ◌+◌, ◌-◌, ◌≤◌, ℤ, nat_abs}
+use Rattle.std.specs.Prelude.{◌≡◌, refl, Bool, true, false, cond, [], ◌∷◌, ℕ, ◌+◌, ◌≤◌, ℤ, nat_abs}
 use Rattle.std.proofs.Common.{inr, arith}
 use Rattle.record.specs.Codes.{completed, kind_cash, kind_lot, kind_lot_history, kind_settlement, kind_summary}
 use Rattle.record.specs.Codes.{kind_trade_history}
@@ -24,8 +24,8 @@ use Rattle.preserved.specs.ResultEach.{lot_opened}
 -- what a result writes is in its range
 pub record Small (broker : Row) (n : Sums) : Type 0 where
   pub price_least : 1 ≤ n.price
-  pub price_most_holds : n.price ≤ price_most
-  pub time_most_holds : n.time ≤ time.high
+  pub price_most : n.price ≤ price_most
+  pub time_most : n.time ≤ time.high
   pub commission_most : n.commission ≤ fee.high
   pub tax_most : n.tax ≤ fee.high
   pub amount_most : nat_abs n.amount ≤ money_most

@@ -68,8 +68,8 @@ module _ (rs : List Row) (input : Row) (good : sound rs ≡ true) (right : resul
       let said = (means_result_input input).shows right in
       record {
         price_least = said.2.2.2.2.2.2.2.0;
-        price_most_holds = said.2.2.2.2.2.2.2.1;
-        time_most_holds = said.2.2.2.2.2.2.2.2.2.2.2.2.2.1;
+        price_most = said.2.2.2.2.2.2.2.1;
+        time_most = said.2.2.2.2.2.2.2.2.2.2.2.2.2.1;
         commission_most = commission_most;
         tax_most = tax_most;
         amount_most = amount_most;

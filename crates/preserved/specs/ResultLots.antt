@@ -24,7 +24,7 @@ use Rattle.model.specs.Money.{buys}
 use Rattle.model.specs.Names.{a_summary}
 use Rattle.model.specs.Result.{signed, Sums, added, closing_rows, final_rows, gone, lot_changes, opening_rows}
 use Rattle.model.specs.Result.{summary_changes, summary_rows, summed_shares}
-use Rattle.model.specs.Rows.{has_key, is, nothing, same_row, there}
+use Rattle.model.specs.Rows.{has_key, is, nothing, same_row}
 use Rattle.model.specs.Sound.{lot_of, other_sign, shares_of}
 use Rattle.model.specs.SoundMeans.{LotRight, S1, S8, SummaryRight, There}
 use Rattle.facts.specs.Signed.{sum_fits}

@@ -1,6 +1,6 @@
 -- The summary of a trade's account and symbol after its result: it is the sum of the lots, and it goes where no lot is
 -- left. Those of others stay. Assumes nothing.
-use Rattle.std.specs.Prelude.{◌≡◌, refl, Bool, true, false, not, ◌&&◌, ℕ, ◌+◌, ◌≤◌, eqb, ℤ, pos, ◌+ℤ◌, length}
+use Rattle.std.specs.Prelude.{◌≡◌, refl, Bool, true, false, not, ◌&&◌, ℕ, ◌≤◌, eqb, ℤ, pos, ◌+ℤ◌, length}
 use Rattle.std.proofs.Common.{sym, ap, ◌∙◌, arith, eq-eqb, eqb-true, to_z}
 use mathlib.Core.List.{List, [], ◌∷◌, Memᴰ}
 use Rattle.std.specs.Int.{w64}

@@ -2,6 +2,7 @@
 // price of the trade in it. The same steps give the figures, the number of lots that are closed, and what is left of
 // each.
 #![tactic(auto)]
+
 ghost use Rattle.std.specs.Prelude.{cond, ◌≡◌, ◌+◌, ◌*◌, ◌<◌, ◌≤◌, eqb, nat_abs, pos};
 ghost use Rattle.record.specs.Signed.{up};
 ghost use Rattle.units.specs.Units.{cents, shares};

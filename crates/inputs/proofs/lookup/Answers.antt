@@ -1,0 +1,14 @@
+-- The rule of the entry is the table's by computation.
+use Rattle.std.proofs.Common.{refl, arith}
+use Rattle.record.specs.Spelling.{symbol_ok}
+use Rattle.rules.specs.Beyond.{in_two}
+use Rattle.rules.specs.Rules.{lookup_input_shape}
+use Rattle.inputs.proofs.lookup.Goals as goal
+
+pub beyond-requires : goal.beyond-requires
+unfolding symbol_ok
+beyond-requires c = (omega arith, omega arith, refl)
+
+pub returns : goal.returns
+unfolding lookup_input_shape
+returns c = in_two _ _ refl c.in_limits-t.ensures c.beyond.ensures
