@@ -1,5 +1,6 @@
 // The tally: the trades of a book over a square of five trade types by three statuses.
 #![tactic(auto)]
+
 ghost use Rattle.std.specs.Prelude.{◌≡◌, ◌<◌};
 ghost use Rattle.laws.specs.Search.{count};
 ghost use Rattle.model.specs.Rows.{places, rows};
