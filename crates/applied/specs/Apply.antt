@@ -1,4 +1,4 @@
--- The entries of a feed applied in turn: what an entry needs of the book and leaves of it. Assumes nothing.
+-- The entries of a feed applied in turn: what an entry needs of the book and leaves of it.
 use Rattle.std.specs.Prelude.{◌≡◌, Bool, false, cond, ◌&&◌, ℕ, ◌+◌, ◌≤◌, ◌<◌, eqb, length, drop, get_or, take}
 use Rattle.std.proofs.Math.Path.{refl, ap}
 use Rattle.std.proofs.Common.{sym, ◌∙◌, length-take}

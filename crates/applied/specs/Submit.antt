@@ -1,6 +1,6 @@
 -- What the functions that apply an entry keep while they change the book: the directory is right, and free rows are
--- zeros. A security's row is changed in its place; a trade is submitted. Assumes nothing.
-use Rattle.std.specs.Prelude.{◌≡◌, refl, Bool, true, false, List, [], ◌∷◌, map, ℕ, suc, ◌+◌, ◌-◌, ◌/◌, ◌≤◌, ◌<◌, max, eqb, ltb, pos, length, take, get_or, set}
+-- zeros. A security's row is changed in its place; a trade is submitted.
+use Rattle.std.specs.Prelude.{◌≡◌, refl, Bool, true, false, List, [], ◌∷◌, map, ℕ, suc, ◌+◌, ◌/◌, ◌≤◌, ◌<◌, max, eqb, ltb, pos, length, take, get_or, set}
 use Rattle.std.proofs.Common.{sym, ◌∙◌, add-one, get_or-set_other, get_or-set_same, to_z, eq-eqb, eqb-true, ltb-false, ltb-true}
 use Rattle.std.proofs.Math.Path.{ap}
 use Rattle.std.proofs.lemmas.Bool.{false≢true, eqb-false}

@@ -1,6 +1,7 @@
 // The entries of a feed applied to the book: securities and trades change where they stand, and a history row is added
 // for each trade that is submitted.
 #![tactic(auto)]
+
 ghost use Rattle.std.specs.Prelude.{◌≡◌, true, ◌+◌, ◌≤◌, pos, length, take};
 ghost use Rattle.laws.specs.Search.{run};
 ghost use Rattle.record.specs.Signed.{up};

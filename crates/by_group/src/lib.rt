@@ -1,6 +1,7 @@
 // Bands that do not overlap (S4), a customer's rates (S5), and lots with their summary (S8): that lots of
 // one account and symbol have one sign is told at the summary.
 #![tactic(auto)]
+
 ghost use Rattle.std.specs.Prelude.{◌≡◌, true, ◌<◌};
 ghost use Rattle.model.specs.Names.{a_trade};
 ghost use Rattle.model.specs.Rows.{found, places, rows};

@@ -1,6 +1,7 @@
 // The lots that a trade closes: gathered by the directory of the book, put in the order in which they are closed, and
 // walked over.
 #![tactic(auto)]
+
 ghost use Rattle.std.specs.Prelude.{map, ◌≡◌, ◌+◌, ◌<◌, ◌≤◌, pos, length, set, take};
 ghost use Rattle.std.specs.Int.Signed.{lt_z};
 ghost use Rattle.laws.specs.Search.{bit};
@@ -83,6 +84,7 @@ fn collect(book: &[u8], dir: &[u16], sought: Sought, at: &mut [u16]) -> usize
     n
 }
 
+#[tactic(auto, unfolding(crate::specs::Closing::by_time))]
 fn by_time(falling: bool) -> By
     ensures { result ≡ by_time falling }
 {

@@ -30,6 +30,7 @@ pub struct Estimate {
 }
 
 // The last price for types 1 and 2, else the bid.
+#[tactic(auto, using(crate::specs::Estimate::price_last, crate::specs::Estimate::price_bid))]
 fn price_used(input: OrderInput, security: Security) -> Price
     ensures { result ≡ used_price input security }
 {

@@ -13,6 +13,7 @@ use record::codes::TradeType;
 use reply::{also, also_rated};
 
 // The rows that an order adds: a trade and its history, and a request for types 3 to 5.
+#[tactic(auto, using(crate::specs::Judge::two_added, crate::specs::Judge::three_added))]
 fn rows_added(input: OrderInput) -> usize
     ensures { result ≡ rows_added input }
 {
@@ -24,6 +25,7 @@ fn rows_added(input: OrderInput) -> usize
 }
 
 // The checks of an order alone.
+#[tactic(auto, using(crate::specs::Judge::own_judged))]
 fn own_checks(terms: Terms, estimate: Estimate) -> Status
     ensures { result ≡ verdict (own_checks terms estimate) }
 {
@@ -37,6 +39,7 @@ fn own_checks(terms: Terms, estimate: Estimate) -> Status
 }
 
 // The checks of the rules, one after the other.
+#[tactic(auto, unfolding(crate::specs::Judge::judged))]
 pub fn judge(t: Totals, input: OrderInput, terms: Terms, estimate: Estimate) -> Status
     ensures { result ≡ judged t.free input terms estimate }
 {

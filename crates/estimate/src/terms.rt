@@ -48,6 +48,7 @@ pub struct Terms {
     pub number: TradeNo,
 }
 
+#[tactic(auto, using(crate::specs::Terms::holder_is))]
 fn holder_of(book: &[u8], dir: &[u16], no: AccountNo) -> Holder
     requires { Listed book.now dir.now }
     ensures { result ≡ holder_of (rows book.now) no }
@@ -61,6 +62,7 @@ fn holder_of(book: &[u8], dir: &[u16], no: AccountNo) -> Holder
 }
 
 // The owner may always order; anyone else has a row for the account.
+#[tactic(auto, using(crate::specs::Terms::owner_may, crate::specs::Terms::other_may))]
 fn permitted(book: &[u8], dir: &[u16], account: AccountNo, executor: ExecutorNo) -> bool
     requires { Listed book.now dir.now }
     ensures { result ≡ permitted (rows book.now) account.0 executor.0 }
@@ -71,6 +73,7 @@ fn permitted(book: &[u8], dir: &[u16], account: AccountNo, executor: ExecutorNo)
     typed::permission(book, dir, account, executor) < places(book)
 }
 
+#[tactic(auto, using(crate::specs::Terms::paper_is))]
 fn paper_of(book: &[u8], dir: &[u16], symbol: Symbol) -> Paper
     requires { Listed book.now dir.now }
     ensures { result ≡ paper_of (rows book.now) symbol }

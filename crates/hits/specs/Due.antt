@@ -1,6 +1,6 @@
 -- How many trades a feed submits and which requests leave, told from the book at entry: a request is due where one of
 -- the entries is on its symbol and reaches its bid. Along the entries the requests stay as they are, and a request's
--- trade is pending until an entry hits it. Assumes nothing.
+-- trade is pending until an entry hits it.
 use Rattle.std.specs.Prelude.{◌≡◌, ◌&&◌, ◌||◌, ℕ, ◌+◌, ◌<◌, eqb, take, get_or}
 use Rattle.std.proofs.Math.Path.{refl, ap}
 use Rattle.std.proofs.Common.{sym, subst, ◌∙◌, add-zero, zero-add, arith}

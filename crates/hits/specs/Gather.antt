@@ -1,4 +1,4 @@
--- The requests that an entry submits, gathered by their places, and how many all entries submit. Assumes nothing.
+-- The requests that an entry submits, gathered by their places, and how many all entries submit.
 use Rattle.std.specs.Prelude.{◌≡◌, refl, Bool, true, false, ◌&&◌, List, [], map, ℕ, ◌+◌, ◌≤◌, ◌<◌, length, take, drop, get_or, set}
 use Rattle.std.proofs.Common.{sym, ◌∙◌, arith, length-take, take_all}
 use Rattle.std.proofs.Math.Path.{ap}

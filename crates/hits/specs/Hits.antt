@@ -1,4 +1,4 @@
--- Which requests the entries of a feed submit. Assumes nothing.
+-- Which requests the entries of a feed submit.
 use Rattle.std.specs.Prelude.{◌≡◌, refl, Bool, true, false, not, ◌&&◌, ◌||◌, List, [], ◌∷◌, ◌++◌, ℕ, ◌+◌, ◌<◌, eqb, leb, length, take, get_or}
 use Rattle.std.proofs.Common.{sym, ap, ◌∙◌, add-one, take-suc}
 use Rattle.std.proofs.lemmas.Bool.{false≢true}

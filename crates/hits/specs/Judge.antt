@@ -1,5 +1,5 @@
 -- The status of a feed's checks, told from the book at entry, as the code comes to it: as many trades are submitted as
--- requests are due, and each volume grows by the shares of the entries on its symbol. Assumes nothing.
+-- requests are due, and each volume grows by the shares of the entries on its symbol.
 use Rattle.std.specs.Prelude.{◌≡◌, Bool, cond, ◌&&◌, ◌||◌, List, [], ◌∷◌, ℕ, suc, ◌+◌, ◌*◌, ◌/◌, ◌%◌, ◌≤◌, ◌<◌, eqb, leb, ltb, pos, nat_abs, ◌+ℤ◌, length, take, drop, get_or}
 use Rattle.std.proofs.Math.Path.{refl, sym, ap}
 use Rattle.std.proofs.Common.{◌∙◌, add-one, get_or-drop, get_or-take, rules, to_z}

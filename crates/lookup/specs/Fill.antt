@@ -1,4 +1,4 @@
--- A loop that answers each record of an input with two rows, in their turn. Assumes nothing.
+-- A loop that answers each record of an input with two rows, in their turn.
 use Rattle.std.specs.Prelude.{◌≡◌, refl, Bool, true, false, ◌&&◌, List, [], ◌∷◌, eqb, leb, length, drop, set}
 use Rattle.std.proofs.Math.Path.{sym, ap}
 use Rattle.std.proofs.Common.{◌∙◌, append-nil, drop_of_length-le, eq-eqb, eqb-true, le-leb, leb-true}

@@ -1,5 +1,6 @@
 // Trade-Lookup by trade number, on a book that is known to be sound.
 #![tactic(auto)]
+
 ghost use Rattle.std.specs.Prelude.{◌≡◌, true, ◌*◌, ◌+◌, ◌<◌, length};
 ghost use Rattle.model.specs.Call.{most_inputs};
 ghost use Rattle.model.specs.Lookup.{checks, looked, lookup};

@@ -1,5 +1,6 @@
 // Trade-Order, on a book that is known to be sound and its directory: judged on the book as it is, and then posted.
 #![tactic(auto)]
+
 ghost use Rattle.std.specs.Prelude.{◌≡◌, true, length};
 ghost use Rattle.record.specs.Grid.{decode};
 ghost use Rattle.rules.specs.Rules.{order_input};

@@ -1,4 +1,4 @@
--- Rows added one after the other, each at the lowest free place, while the directory stays right. Assumes nothing.
+-- Rows added one after the other, each at the lowest free place, while the directory stays right.
 use Rattle.std.specs.Prelude.{◌≡◌, Bool, true, false, List, [], ◌∷◌, ◌++◌, ℕ, zero, suc, ◌+◌, ◌≤◌, max, length, get_or, set}
 use Rattle.std.proofs.Math.Path.{refl}
 use Rattle.std.proofs.Common.{sym, ap, ◌∙◌, length-append}

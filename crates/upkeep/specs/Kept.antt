@@ -1,4 +1,4 @@
--- The directory of a book while rows come and go: its totals, and what a caller needs to know of it. Assumes nothing.
+-- The directory of a book while rows come and go: its totals, and what a caller needs to know of it.
 use Rattle.std.specs.Prelude.{◌≡◌, refl, Bool, false, List, ◌∷◌, ℕ, ◌+◌, ◌-◌, ◌≤◌, ◌<◌, max, eqb, ltb, length, set}
 use Rattle.std.proofs.Common.{sym, ap, ◌∙◌, get_or-set_same}
 use Rattle.std.proofs.Math.Bool.{true}
@@ -8,7 +8,7 @@ use borrow.Author.Tests.{eqb-true, le-leb, ltb-true, ltb-false}
 use Rattle.laws.specs.Chain.{chain_put}
 use Rattle.laws.specs.Place.{some_place}
 use Rattle.laws.specs.Puts.{count_length}
-use Rattle.laws.specs.Search.{bit, count, largest, total}
+use Rattle.laws.specs.Search.{bit, count, total}
 use Rattle.chains.specs.Set.{largest_alike, largest_set, total_alike, total_set}
 use Rattle.laws.specs.Walk.{from_holds}
 use Rattle.record.specs.Codes.{kind_free, kind_trade}

@@ -1,5 +1,5 @@
 -- A row leaves the directory, and another comes into its place: between the two the place is in no chain. The last
--- bucket is that of the free rows, so its chain lists the free places, the lowest first. Assumes nothing.
+-- bucket is that of the free rows, so its chain lists the free places, the lowest first.
 use Rattle.std.specs.Prelude.{◌≡◌, refl, Bool, true, false, List, [], map, ℕ, ◌+◌, ◌-◌, ◌≤◌, ◌<◌, eqb, ltb, drop}
 use Rattle.std.proofs.Common.{sym, ap, ◌∙◌, get_or-set_same, set-set}
 use native.Mathlib.Omega.{arith}

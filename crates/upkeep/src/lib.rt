@@ -1,5 +1,6 @@
 // A row added at the lowest free place, changed in its place, or freed: book and directory together.
 #![tactic(auto)]
+
 ghost use Rattle.std.specs.Prelude.{◌≡◌, false, true, ◌+◌, ◌-◌, ◌<◌, ◌≤◌, max, set};
 ghost use Rattle.record.specs.Codes.{kind_free};
 ghost use Rattle.model.specs.Order.{trade_id};

@@ -1,0 +1,12 @@
+-- The rows of the kind before place c are well, and c is the next place of the kind. The measure is the number of places
+-- left.
+use Rattle.std.proofs.Common.{◌-◌}
+use Rattle.by_kind.specs.Chains.{Going}
+use Rattle.by_kind.specs.Kinds.{WellAt}
+use Rattle.by_kind.proofs.own.own.Given as goal
+
+abbrev pub invariant-loop-c : goal.invariant-loop-c
+invariant-loop-c l = Going (WellAt l.book) l.book l.kind l.c
+
+abbrev pub decreases-loop-c : goal.decreases-loop-c
+decreases-loop-c l = l.n - l.c
