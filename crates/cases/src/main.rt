@@ -10,7 +10,8 @@ mod text;
 
 use checked::accepted;
 use fill::set_all;
-use intake::read_full;
+use std::io;
+use std::io::Read;
 use text::find;
 
 // A good record, and where its name stands in the text.
@@ -100,8 +101,10 @@ fn run(rt: &impl Print, text: &[u8]) {
 // Longer input is cut off here.
 const MOST_TEXT: usize = 65_536;
 
-fn main(rt: HostRuntime) {
-    let mut area = [0u8; MOST_TEXT];
-    let n = read_full(&mut rt.stdin(), &mut area);
-    run(&rt, &area[..n]);
+fn main(rt: HostRuntime) -> io::Result<()> {
+    let mut text = Vec::with_capacity(rt.alloc(), MOST_TEXT)?;
+    // A read that fails ends the input.
+    let _ = rt.stdin().take(MOST_TEXT as u64).read_to_end(&mut text);
+    run(&rt, text.as_slice());
+    Ok(())
 }

@@ -7,9 +7,12 @@ ghost use Rattle.tally.specs.Page.{IsPrefixLen};
 ghost use Rattle.tally.specs.Text.{answer};
 ghost use Rattle.tally.specs.Told.{IsTold};
 
+mod input;
+#[cfg(test)]
+mod tests;
 mod text;
 
-use intake::read_full;
+use input::read_full;
 use model::Status;
 use record::row::Grid;
 use std::io;

@@ -1,5 +1,5 @@
 // What no clause says: when reading stops.
-use crate::read_full;
+use crate::input::read_full;
 use std::io::{Error, Read, Result};
 
 // Gives a byte at each read, its number, and fails at one of them.

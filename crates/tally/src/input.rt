@@ -1,11 +1,6 @@
 // The bytes of an input, as many as an area has room for.
-#![tactic(auto)]
-
 ghost use Rattle.std.specs.Prelude.{◌≤◌, length, take};
 ghost use Rattle.std.specs.Io.KnownBytes.{Consumes};
-
-#[cfg(test)]
-mod tests;
 
 use std::io::Read;
 
