@@ -10,7 +10,7 @@ use Rattle.record.specs.Codes.{submitted}
 use Rattle.record.specs.Grid.{decode}
 use Rattle.record.specs.declared.row.Row.{Row}
 use Rattle.rules.specs.Ranges.{broker_trades, commission_total, money_most, trade_number, volume}
-use Rattle.model.specs.Call.{Call, a_feed, aLookup, a_result, an_order, decide_of, fields_of, lengths_of, replied, run}
+use Rattle.model.specs.Call.{Call, a_feed, a_lookup, a_result, an_order, decide_of, fields_of, lengths_of, replied, run}
 use Rattle.model.specs.Call.{shell}
 use Rattle.model.specs.Feed as feed
 use Rattle.model.specs.Lookup as lookup
@@ -163,21 +163,21 @@ abbrev own_tests : Call → List Row → List ℕ → List Bool
 own_tests an_order rs input = order_tests rs (decode input)
 own_tests a_result rs input = result_tests rs (decode input)
 own_tests a_feed rs input = feed_tests rs (rows input)
-own_tests aLookup rs input = lookup_tests rs (rows input)
+own_tests a_lookup rs input = lookup_tests rs (rows input)
 
 own_told : (c : Call) (rs : List Row) (input : List ℕ) → sound rs ≡ true
     → Told (own_lines c rs input) (own_tests c rs input)
 own_told an_order rs input good = order_told rs (decode input) good
 own_told a_result rs input good = result_told rs (decode input) good
 own_told a_feed rs input good = feed_told rs (rows input)
-own_told aLookup rs input good = lookup_told rs (rows input)
+own_told a_lookup rs input good = lookup_told rs (rows input)
 
 own_status : (c : Call) (rs : List Row) (input : List ℕ)
     → (decide_of c input rs).status ≡ given (own_lines c rs input) (own_tests c rs input)
 own_status an_order rs input = order_status rs (decode input)
 own_status a_result rs input = result_status rs (decode input)
 own_status a_feed rs input = feed_status rs (rows input)
-own_status aLookup rs input = lookup_status rs (rows input)
+own_status a_lookup rs input = lookup_status rs (rows input)
 
 -- ---- the whole table
 module _ (c : Call) (book input answer : List ℕ) where

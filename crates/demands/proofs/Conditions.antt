@@ -28,7 +28,7 @@ use Rattle.rules.specs.Rules.{as_kind}
 use Rattle.model.specs.declared.BandAnswer.{BandAnswer}
 use Rattle.model.specs.declared.BandAnswer.TheVariants.{NoBand, Rate, ZeroRate}
 use Rattle.model.specs.Band.{answer_of, band_answer, band_for, no_band, rated, zero_rate}
-use Rattle.model.specs.Call.{Call, a_feed, aLookup, a_result, an_order, fields_of, lengths_of, most_inputs}
+use Rattle.model.specs.Call.{Call, a_feed, a_lookup, a_result, an_order, fields_of, lengths_of, most_inputs}
 use Rattle.model.specs.Lots.{Walk}
 use Rattle.model.specs.Money.{taxable, untaxed}
 use Rattle.model.specs.Names.{a_charge, a_permission, a_security, a_trade, an_account}
@@ -336,13 +336,13 @@ pub means_lengths : (c : Call) (input answer : ℕ) → Means (lengths_of c inpu
 means_lengths an_order input answer = means_and (means_eq input record_size) (means_eq answer record_size)
 means_lengths a_result input answer = means_and (means_eq input record_size) (means_eq answer record_size)
 means_lengths a_feed input answer = means_and (means_records most_inputs input) (means_eq answer record_size)
-means_lengths aLookup input answer = means_and (means_records most_inputs input) (means_eq answer (2 * input))
+means_lengths a_lookup input answer = means_and (means_records most_inputs input) (means_eq answer (2 * input))
 
 pub means_fields : (c : Call) (input : List ℕ) → Means (fields_of c input) (RightFields c input)
 means_fields an_order input = means_order_input (decode input)
 means_fields a_result input = means_result_input (decode input)
 means_fields a_feed input = means_every (rows input) means_feed_input
-means_fields aLookup input = means_every (rows input) means_lookup_input
+means_fields a_lookup input = means_every (rows input) means_lookup_input
 
 -- a book's length is wrong
 pub means_bad_book : (n : ℕ)

@@ -5,7 +5,7 @@ use Rattle.std.proofs.Common.{sym, ap, ◌∙◌, inl, inr, ⊎_elim, of_z}
 use Rattle.std.proofs.lemmas.Bool.{eqb-false, not-true}
 use Rattle.std.specs.Int.{w32}
 use Rattle.laws.specs.Tests.{and_left, and_right}
-use Rattle.model.specs.Call.{Call, a_feed, aLookup, a_result, an_order}
+use Rattle.model.specs.Call.{Call, a_feed, a_lookup, a_result, an_order}
 use Rattle.model.specs.Status.{number}
 use Rattle.model.specs.declared.Status.{Status}
 use Rattle.model.specs.declared.Status.TheVariants.{Done}
@@ -75,7 +75,7 @@ all_apart : (c : Call) (book input answer : List ℕ) → apart (table c book in
 all_apart an_order book input answer = refl
 all_apart a_result book input answer = refl
 all_apart a_feed book input answer = refl
-all_apart aLookup book input answer = refl
+all_apart a_lookup book input answer = refl
 
 pub line_by_line : LineByLine
 line_by_line c book input answer returned book' answer' p =

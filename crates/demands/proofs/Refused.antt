@@ -11,12 +11,12 @@ use Rattle.std.specs.Int.{w32}
 use Rattle.laws.specs.Tests.{and_left, and_right}
 use Rattle.record.specs.Bytes.{bytes_of, le, low_first_holds}
 use Rattle.model.specs.Status.{is_done, number}
-use Rattle.model.specs.Call.{Call, Promise, Reply, a_feed, aLookup, a_result, an_order, decide_of, fields_of, lengths_of}
+use Rattle.model.specs.Call.{Call, Promise, Reply, a_feed, a_lookup, a_result, an_order, decide_of, fields_of, lengths_of}
 use Rattle.model.specs.Call.{most_inputs, refusal_area, replied, run, shell}
 use Rattle.model.specs.Plan.{Outcome, pick, refused}
 use Rattle.model.specs.Rows.{most_records, record_size, rows, whole_records}
 use Rattle.model.specs.Sound.{sound}
-use Rattle.model.specs.Unposted.{refusal_leaves}
+use Rattle.model.proofs.Unposted.{refusal_leaves}
 use Rattle.model.specs.declared.Status.{Status}
 use Rattle.model.specs.declared.Status.TheVariants.{BadBook, BadInput, BadLength, Done, Unsound}
 use Rattle.facts.specs.Status.{done_number, fits_32, number_back}
@@ -73,7 +73,7 @@ answer_long a_result input answer e =
     let l = eqb-true answer 64 (and_right (eqb input 64) (eqb answer 64) e) in omega arith
 answer_long a_feed input answer e =
     let l = eqb-true answer 64 (and_right (whole_records most_inputs input) (eqb answer 64) e) in omega arith
-answer_long aLookup input answer e =
+answer_long a_lookup input answer e =
     let w = some_records most_inputs input (and_left (whole_records most_inputs input) (eqb answer (2 * input)) e) in
     let l = eqb-true answer (2 * input) (and_right (whole_records most_inputs input) (eqb answer (2 * input)) e) in
     omega arith

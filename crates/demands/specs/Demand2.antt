@@ -20,7 +20,7 @@ use Rattle.model.specs.declared.Status.TheVariants.{ResultNoBand, ResultNoRate, 
 use Rattle.model.specs.declared.Status.TheVariants.{ResultNotSubmitted, Unsound}
 use Rattle.model.specs.declared.BandAnswer.{BandAnswer}
 use Rattle.model.specs.declared.BandAnswer.TheVariants.{NoBand, Rate, ZeroRate}
-use Rattle.model.specs.Call.{Call, Promise, a_feed, aLookup, a_result, an_order, most_inputs, run}
+use Rattle.model.specs.Call.{Call, Promise, a_feed, a_lookup, a_result, an_order, most_inputs, run}
 use Rattle.model.specs.Feed.{Fed, applied}
 use Rattle.model.specs.Lots.{Walk}
 use Rattle.model.specs.Names.{a_broker, a_customer, a_security}
@@ -108,13 +108,13 @@ abbrev pub RightLengths : Call → ℕ → ℕ → Type 0
 RightLengths an_order input answer = (input ≡ record_size) × (answer ≡ record_size)
 RightLengths a_result input answer = (input ≡ record_size) × (answer ≡ record_size)
 RightLengths a_feed input answer = Records most_inputs input × (answer ≡ record_size)
-RightLengths aLookup input answer = Records most_inputs input × (answer ≡ 2 * input)
+RightLengths a_lookup input answer = Records most_inputs input × (answer ≡ 2 * input)
 
 abbrev pub RightFields : Call → List ℕ → Type 0
 RightFields an_order input = OrderInput (decode input)
 RightFields a_result input = ResultInput (decode input)
 RightFields a_feed input = All FeedInput (rows input)
-RightFields aLookup input = All LookupInput (rows input)
+RightFields a_lookup input = All LookupInput (rows input)
 
 abbrev pub opening : Call → List ℕ → List ℕ → List ℕ → List Line
 opening c book input answer =
@@ -203,7 +203,7 @@ abbrev pub own_lines : Call → List Row → List ℕ → List Line
 own_lines an_order rs input = order_lines rs (decode input)
 own_lines a_result rs input = result_lines rs (decode input)
 own_lines a_feed rs input = feed_lines rs (rows input)
-own_lines aLookup rs input = lookup_lines rs (rows input)
+own_lines a_lookup rs input = lookup_lines rs (rows input)
 
 abbrev pub table : Call → List ℕ → List ℕ → List ℕ → List Line
 table c book input answer = opening c book input answer ++ own_lines c (rows book) input

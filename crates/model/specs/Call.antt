@@ -65,26 +65,26 @@ most_inputs = 20
 
 -- ---- the four calls, as data: each has its lengths, the rule of its input's fields, and its decision
 pub data Call : Type 0 where
-  an_order a_result a_feed aLookup : Call
+  an_order a_result a_feed a_lookup : Call
 
 -- the lengths of the input and of the answer area are those that the call takes
 abbrev pub lengths_of : Call → ℕ → ℕ → Bool
 lengths_of an_order input answer = eqb input record_size && eqb answer record_size
 lengths_of a_result input answer = eqb input record_size && eqb answer record_size
 lengths_of a_feed input answer = whole_records most_inputs input && eqb answer record_size
-lengths_of aLookup input answer = whole_records most_inputs input && eqb answer (2 * input)
+lengths_of a_lookup input answer = whole_records most_inputs input && eqb answer (2 * input)
 
 abbrev pub fields_of : Call → List ℕ → Bool
 fields_of an_order input = order_input (decode input)
 fields_of a_result input = result_input (decode input)
 fields_of a_feed input = every feed_input (rows input)
-fields_of aLookup input = every lookup_input (rows input)
+fields_of a_lookup input = every lookup_input (rows input)
 
 abbrev pub decide_of : Call → List ℕ → List Row → Outcome
 decide_of an_order input rs = order rs (decode input)
 decide_of a_result input rs = result rs (decode input)
 decide_of a_feed input rs = feed rs (rows input)
-decide_of aLookup input rs = lookup rs (rows input)
+decide_of a_lookup input rs = lookup rs (rows input)
 
 -- a call on a book, an input and an answer area
 unfoldable pub run : Call → List ℕ → List ℕ → List ℕ → Reply
@@ -101,20 +101,10 @@ abbrev pub feed_call : List ℕ → List ℕ → List ℕ → Reply
 feed_call b input answer = run a_feed b input answer
 
 abbrev pub lookup_call : List ℕ → List ℕ → List ℕ → Reply
-lookup_call b input answer = run aLookup b input answer
+lookup_call b input answer = run a_lookup b input answer
 
 -- ---- what a call promises: the number returned, the book and the answer area as they are left
 pub record Promise (reply : Reply) (returned : ℤ) (book answer : List ℕ) : Type 0 where
   pub returns : returned ≡ number reply.status
   pub keeps : book ≡ reply.book
   pub says : answer ≡ reply.answer
-
--- no second answer fits
-pub one_answer : (reply : Reply) (n m : ℤ) (b c a d : List ℕ) → Promise reply n b a → Promise reply m c d
-    → (n ≡ m) × (b ≡ c) × (a ≡ d)
-one_answer reply n m b c a d p q =
-    (p.returns ∙ sym q.returns, p.keeps ∙ sym q.keeps, p.says ∙ sym q.says)
-
-pub call_unique : (c : Call) (b input answer : List ℕ) (n m : ℤ) (k l d e : List ℕ)
-    → Promise (run c b input answer) n k d → Promise (run c b input answer) m l e → (n ≡ m) × (k ≡ l) × (d ≡ e)
-call_unique c b input answer = one_answer (run c b input answer)

@@ -16,7 +16,6 @@ pub mod Order
 pub mod Feed
 pub mod Lookup
 pub mod Call
-pub mod Unposted
 pub mod Tally
 pub mod Evaluate
 pub mod Sample

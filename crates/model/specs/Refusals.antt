@@ -17,7 +17,7 @@ use Rattle.model.specs.Sample.{order_of, permission, result_at, selling, unrated
 use Rattle.model.specs.Status.{number}
 
 pub data Case : Type 0 where
-  an_order a_result a_feed aLookup : List ℕ → List ℕ → Case
+  an_order a_result a_feed a_lookup : List ℕ → List ℕ → Case
 
 abbrev area : List ℕ
 area = replicate 64 7
@@ -27,7 +27,7 @@ unfolding keep order_opened result_opened feed_opened lookup_opened
 given (an_order b i) = number (order_call b i area).status
 given (a_result b i) = number (result_call b i area).status
 given (a_feed b i) = number (feed_call b i area).status
-given (aLookup b i) = number (lookup_call b i (replicate 128 7)).status
+given (a_lookup b i) = number (lookup_call b i (replicate 128 7)).status
 
 pub record Refusal : Type 0 where
   pub case : Case
@@ -47,7 +47,7 @@ abbrev feed : List Row → List Row → Case
 feed rs is = a_feed (bytes rs) (bytes is)
 
 abbrev lookup : List Row → Row → Case
-lookup rs i = aLookup (bytes rs) (encode i)
+lookup rs i = a_lookup (bytes rs) (encode i)
 
 -- not sound: its first row is twice there
 abbrev twice : List Row → List Row

@@ -10,13 +10,13 @@ use Rattle.laws.specs.Tests.{and_left, and_right}
 use Rattle.record.specs.Grid.{decode}
 use Rattle.record.specs.declared.row.Row.{Row}
 use Rattle.model.specs.Status.{is_done}
-use Rattle.model.specs.Call.{Call, Reply, a_feed, aLookup, a_result, an_order, choose, decide_of, fields_of, lengths_of}
+use Rattle.model.specs.Call.{Call, Reply, a_feed, a_lookup, a_result, an_order, choose, decide_of, fields_of, lengths_of}
 use Rattle.model.specs.Call.{replied, run, shell}
 use Rattle.model.specs.Plan.{Outcome, pick, refused}
 use Rattle.model.specs.Result.{result}
 use Rattle.model.specs.Rows.{bytes, most_records, record_size, rows, whole_records}
 use Rattle.model.specs.Sound.{sound}
-use Rattle.model.specs.Unposted.{lookup_rows}
+use Rattle.model.proofs.Unposted.{lookup_rows}
 use Rattle.model.specs.declared.Status.TheVariants.{BadBook, BadInput, BadLength, Unsound}
 use Rattle.facts.specs.Rows.{length_rows}
 use Rattle.facts.specs.Found.{sound_s1}
@@ -108,7 +108,7 @@ decision_leaves a_result b input few good right done =
     (result_sound (rows b) (decode input) few good right done, result_length (rows b) (decode input) good done)
 decision_leaves a_feed b input few good right done =
     (feed_sound (rows b) (rows input) good right done, feed_length (rows b) (rows input))
-decision_leaves aLookup b input few good right done =
+decision_leaves a_lookup b input few good right done =
     let same = lookup_rows (rows b) (rows input) in
     (ap sound same ∙ good, ap length same)
 

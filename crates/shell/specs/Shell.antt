@@ -18,7 +18,7 @@ use Rattle.model.specs.Rows.{most_records, record_size, rows, whole_records}
 use Rattle.model.specs.Sound.{sound}
 use Rattle.model.specs.declared.Status.{Status}
 use Rattle.model.specs.declared.Status.TheVariants.{BadBook, BadInput, Done, Unsound}
-use Rattle.model.specs.Unposted.{lookup_keeps}
+use Rattle.model.proofs.Unposted.{lookup_keeps}
 use Rattle.reply.specs.Left.{answer_left, book_left, left_refused, promised}
 use Rattle.opening.specs.Opening.{opening}
 use Rattle.shell.specs.declared.Call.{Call}
