@@ -25,13 +25,13 @@ use Rattle.model.specs.Status.{number}
 use Rattle.facts.specs.Status.{one_status}
 use Rattle.facts.specs.Checks.{decided_status}
 use Rattle.preserved.specs.Cases.{not_so}
-use Rattle.demands.specs.Conditions.{means_a_security, means_a_trade, means_absent, means_an_account}
-use Rattle.demands.specs.Conditions.{means_bad_book, means_fields, means_lengths, means_more, means_no_band}
-use Rattle.demands.specs.Conditions.{means_no_charge, means_no_rate, means_not, means_not_permitted}
-use Rattle.demands.specs.Conditions.{means_one_fails, means_some, means_unknown, means_untaxed}
+use Rattle.demands.proofs.Conditions.{means_a_security, means_a_trade, means_absent, means_an_account}
+use Rattle.demands.proofs.Conditions.{means_bad_book, means_fields, means_lengths, means_more, means_no_band}
+use Rattle.demands.proofs.Conditions.{means_no_charge, means_no_rate, means_not, means_not_permitted}
+use Rattle.demands.proofs.Conditions.{means_one_fails, means_some, means_unknown, means_untaxed}
 use Rattle.demands.specs.Demand2.{Demand2, fed_by, feed_lines, lookup_lines, order_lines, own_lines, result_lines}
 use Rattle.demands.specs.Demand2.{table}
-use Rattle.demands.specs.Lines.{Told, exactly, fails, given, given_checks}
+use Rattle.demands.proofs.Lines.{Told, exactly, fails, given, given_checks}
 
 -- a check that something is not so fails where it is so
 fails_not : (b : Bool) {P : Type 0} → Means b P → Means (not (not b)) P

@@ -9,7 +9,7 @@ use Rattle.model.specs.Call.{Call, a_feed, a_lookup, a_result, an_order}
 use Rattle.model.specs.Status.{number}
 use Rattle.model.specs.declared.Status.{Status}
 use Rattle.model.specs.declared.Status.TheVariants.{Done}
-use Rattle.demands.specs.Checked.{demand_2}
+use Rattle.demands.proofs.Checked.{demand_2}
 use Rattle.demands.specs.Demand2.{Due, Exactly, Line, LineByLine, table}
 
 -- ---- statuses told apart by their numbers
