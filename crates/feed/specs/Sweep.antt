@@ -1,5 +1,5 @@
 -- The requests that were submitted leave, entry by entry: along the requests on an entry's symbol those that it hits
--- are freed. Assumes nothing.
+-- are freed.
 use Rattle.std.specs.Prelude.{◌≡◌, refl, Bool, true, false, cond, ◌&&◌, ◌||◌, List, [], ◌∷◌, ◌++◌, map, ℕ, zero, suc, ◌+◌, ◌-◌, ◌/◌, ◌≤◌, ◌<◌, length, drop, get_or, set, take}
 use Rattle.std.proofs.Common.{sym, ap, ◌∙◌, append_assoc, append-nil, add-zero, add-one, arith, drop-set-lt, take_all, take-suc-set}
 use Rattle.std.proofs.lemmas.Bool.{false≢true}

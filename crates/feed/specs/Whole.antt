@@ -1,4 +1,4 @@
--- The whole feed, as the code comes to it. Assumes nothing.
+-- The whole feed, as the code comes to it.
 use Rattle.std.specs.Prelude.{◌≡◌, refl, Bool, true, false, cond, List, [], ◌∷◌, map, ℕ, suc, ◌+◌, ◌/◌, ◌≤◌, ◌<◌, leb, length}
 use Rattle.std.proofs.Common.{sym, ap, ◌∙◌, arith, leb-true}
 use Rattle.laws.specs.Search.{bit, count, every, keep, length_keep, total}

@@ -1,5 +1,6 @@
 // Market-Feed, on a book that is known to be sound: the entries are judged on the book as it is, and then applied.
 #![tactic(auto)]
+
 ghost use Rattle.std.specs.Prelude.{◌≡◌, true, ◌<◌, length};
 ghost use Rattle.model.specs.Call.{most_inputs};
 ghost use Rattle.model.specs.Feed.{answer_row, feed};

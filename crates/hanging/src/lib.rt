@@ -1,6 +1,7 @@
 // The rows that hang on a trade: request, trade history, lot, settlement and cash. Each is decided by its trade and
 // marked there; two rows of one key would have one mark. The marks then decide each trade.
 #![tactic(auto)]
+
 ghost use Rattle.std.specs.Prelude.{◌≡◌, true, ◌+◌, ◌*◌, ◌<◌};
 ghost use Rattle.laws.specs.Search.{bit};
 ghost use Rattle.record.specs.Codes.{kind_trade};

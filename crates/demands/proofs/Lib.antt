@@ -1,0 +1,5 @@
+pub mod Refused
+pub mod Lines
+pub mod Conditions
+pub mod Checked
+pub mod LineByLine
