@@ -1,6 +1,6 @@
 -- The figures of a number are its digits, where these are the fewest that hold it, and they are what std prints of it.
 use Rattle.std.specs.Prelude.{◌≡◌, refl, Bool, true, false, cond, List, [], ◌∷◌, ◌++◌, ℕ, zero, suc, ◌+◌, ◌-◌, ◌/◌, ◌%◌, ◌^◌, ◌≤◌, ◌<◌, ltb, length}
-use Rattle.std.proofs.Common.{ap, le_of_suc-le-suc, lt_of_not-le, mod-eq_of_lt, not-suc-le-zero, pow-suc, arith, length-append, le-ltb, lt-ltb, eq-eqb, ne_eqb, append-nil, append_assoc, ◌∙◌, ltb-true, ltb-false, sym}
+use Rattle.std.proofs.Common.{ap, le_of_suc-le-suc, lt_of_not-le, mod-eq_of_lt, not-suc-le-zero, pow-suc, arith, length-append, le-ltb, lt-ltb, eq-eqb, ne_eqb, append-nil, append_assoc, ◌∙◌, ltb-true, ltb-false}
 use Rattle.std.proofs.Math.Nat.{one-le-pow, pow-le-pow_right}
 use Rattle.std.specs.Fmt.{decimal as printed, digit_glyph, digits_onto, digits}
 use Rattle.tally.specs.Text.{decimal, figure, figures}
@@ -121,16 +121,16 @@ onto_figures zero k n s l h =
 onto_figures (suc j) zero n s l h = absurd (not-suc-le-zero l)
 onto_figures (suc j) (suc k) n s l h =
     go (ltb n 10) refl (λ t. onto_figures j k (n / 10) (figure (n % 10) ∷ s) (le_of_suc-le-suc l) t) where
-  go : (t : Bool) → ltb n 10 ≡ t
-      → (n / 10 < 10 ^ suc j → digits_onto (suc k) 10 false (n / 10) (figure (n % 10) ∷ s) ≡ figures (suc j) (n / 10) ++ (figure (n % 10) ∷ s))
-      → digits_onto (suc (suc k)) 10 false n s ≡ figures (suc (suc j)) n ++ s
-  go true e f = let i = ltb-true n 10 e in rw (figures_last (suc j) n i) (last (suc k) n s i)
-  go false e f =
-    let i = ltb-false n 10 e in
-    let p = pow-suc 10 (suc j) in
-    let t : n / 10 < 10 ^ suc j = omega arith in
-    let more = append_assoc (figures (suc j) (n / 10)) (figure (n % 10) ∷ []) s in
-    rw (figures_before (suc j) n i, more) (before (suc k) n s i ∙ f t)
+      go : (t : Bool) → ltb n 10 ≡ t
+          → (n / 10 < 10 ^ suc j → digits_onto (suc k) 10 false (n / 10) (figure (n % 10) ∷ s) ≡ figures (suc j) (n / 10) ++ (figure (n % 10) ∷ s))
+          → digits_onto (suc (suc k)) 10 false n s ≡ figures (suc (suc j)) n ++ s
+      go true e f = let i = ltb-true n 10 e in rw (figures_last (suc j) n i) (last (suc k) n s i)
+      go false e f =
+          let i = ltb-false n 10 e in
+          let p = pow-suc 10 (suc j) in
+          let t : n / 10 < 10 ^ suc j = omega arith in
+          let more = append_assoc (figures (suc j) (n / 10)) (figure (n % 10) ∷ []) s in
+          rw (figures_before (suc j) n i, more) (before (suc k) n s i ∙ f t)
 
 -- what std prints
 pub decimal_printed : (n : ℕ) → n < 2 ^ 64 → printed n ≡ decimal n
