@@ -1,6 +1,7 @@
 // Records, good and bad, put to the field checkers. Standard input has a record to a line, and a line of output says
 // of each whether it fits.
 #![tactic(auto)]
+
 ghost use Rattle.std.specs.Prelude.{◌≤◌, length};
 
 mod checked;

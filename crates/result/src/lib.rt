@@ -1,6 +1,7 @@
 // Trade-Result, on a book that is known to be sound and its directory: it is judged on the book as it is, and then
 // posted.
 #![tactic(auto)]
+
 ghost use Rattle.std.specs.Prelude.{true, ◌≡◌, length};
 ghost use Rattle.record.specs.Grid.{decode};
 ghost use Rattle.rules.specs.Rules.{result_input};

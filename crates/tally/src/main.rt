@@ -1,6 +1,7 @@
 // Reads a book of at most 1,024 records from standard input, and prints how many trades it has of each type and
 // status, or that it is refused.
 #![tactic(auto)]
+
 ghost use Rattle.std.specs.Prelude.{◌≡◌, ◌≤◌, length, take};
 ghost use Rattle.io.specs.Counts.{IsPrefixLen};
 ghost use Rattle.tally.specs.Text.{answer};
