@@ -9,11 +9,26 @@ use Rattle.model.specs.Money.{rounded}
 use Rattle.money.specs.Amounts.{value_most}
 use Rattle.money.specs.Fees.{half_up, nearest_most, value_most_holds}
 use Rattle.money.specs.Settle.{kept}
-use Rattle.money.specs.Steps.{PartBelow, SettlementBelow, from_quotient, paid, part, product, quotient, received}
-use Rattle.money.specs.Steps.{remainder, without_charge}
+use Rattle.money.specs.Steps as steps
+use Rattle.money.specs.Steps.{PartBelow, SettlementBelow, paid, received, without_charge}
 
 -- ---- `part`
 module _ (amount rate whole : ℕ) where
+  abbrev quotient : ℕ
+  quotient = steps.quotient amount rate whole
+
+  abbrev remainder : ℕ
+  remainder = steps.remainder amount rate whole
+
+  abbrev from_quotient : ℕ
+  from_quotient = steps.from_quotient amount rate whole
+
+  abbrev product : ℕ
+  product = steps.product amount rate whole
+
+  abbrev part : ℕ
+  part = steps.part amount rate whole
+
   -- the law, for all numbers: whole part and remainder round to what the whole product rounds to
   pub by_parts : 0 < whole → rounded (amount * rate) whole ≡ from_quotient + rounded product whole
   by_parts h =

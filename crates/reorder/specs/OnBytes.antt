@@ -36,7 +36,8 @@ use Rattle.facts.specs.Found.{found_has, found_kind, found_member, found_none, s
 use Rattle.facts.specs.Names.{by_id_holds}
 use Rattle.preserved.specs.Bytes.{length_bytes, rows_bytes}
 use Rattle.preserved.specs.Cases.{by_cases, cond_no, cond_yes}
-use Rattle.preserved.specs.Calls.{SoundBytes, uncalled}
+use Rattle.preserved.specs.Calls.{SoundBytes}
+use Rattle.preserved.proofs.Calls.{uncalled}
 use Rattle.reorder.specs.Local.{Fine}
 use Rattle.reorder.specs.Run.{note_to, on}
 use Rattle.reorder.specs.Sim.{Fines, final, trace}
