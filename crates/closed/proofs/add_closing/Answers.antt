@@ -5,6 +5,6 @@ use Rattle.closed.proofs.add_closing.Goals as goal
 
 pub returns : goal.returns
 returns c =
-    let a = c.add.ensures in
+    let put = c.add.ensures in
     added_one c.requires.room refl (c.lot_history-history.ensures ∙ rw c.remaining-after.ensures.value)
-    (a.fact, (a.directory_2, a.free_value))
+    (put.fact, (put.directory_2, put.free_value))

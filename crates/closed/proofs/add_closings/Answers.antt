@@ -1,9 +1,7 @@
--- Each turn adds the history of one lot: `close_more`, and `close_part` where it is closed in part.
-use Rattle.closed.specs.Close.{close_end, close_met, close_more, close_part, close_room, close_start, lot_near, lot_steps}
+-- The walk ends where the need is met, where a lot is closed in part, or where no lot is left; else the next lot is
+-- closed in whole.
+use Rattle.closed.specs.Close.{close_end, close_met, close_more, close_part, close_room, lot_near, lot_steps}
 use Rattle.closed.proofs.add_closings.Goals as goal
-
-pub loop-i-init : goal.loop-i-init
-loop-i-init c = close_start c.args.trade c.requires.room c.requires.within.0 c.requires.within.1
 
 pub returns-then-plain-eq0 : goal.returns-then-plain-eq0
 returns-then-plain-eq0 c = close_met c.loop-i.invariant c.plain.ensures.value c.if-plain-eq0.true
@@ -19,10 +17,13 @@ add_closing-totals-requires-clause-room c =
     close_room c.loop-i.invariant all.1 all.0 c.loop-i-test.true c.plain.ensures.value c.if-plain-eq0.false
     c.lot-lot.ensures c.left-left.ensures.value
 
-pub add_closing-totals-requires-clause-shares_bound : goal.add_closing-totals-requires-clause-shares_bound
+pub add_closing-totals-requires-clause-shares_bound :
+    goal.add_closing-totals-requires-clause-shares_bound
 add_closing-totals-requires-clause-shares_bound c =
-    let all = c.requires.closables in
-    (lot_near c.loop-i.invariant all.1 all.0 c.loop-i-test.true c.lot-lot.ensures, c.left-left.ensures.up_to)
+    let all = c.requires.closables in (
+      lot_near c.loop-i.invariant all.1 all.0 c.loop-i-test.true c.lot-lot.ensures,
+      c.left-left.ensures.up_to,
+    )
 
 pub returns-then-plain-ne0 : goal.returns-then-plain-ne0
 returns-then-plain-ne0 c =

@@ -4,8 +4,7 @@ use Rattle.closed.proofs.reduce.Goals as goal
 
 pub returns-then-plain-eq0 : goal.returns-then-plain-eq0
 returns-then-plain-eq0 c =
-    let v = c.args in
-    none_kept v.trade v.at.now v.closed c.requires.ready c.plain.ensures.value c.if-plain-eq0.true
+    none_kept c.args.trade c.args.at.now c.args.closed c.requires.ready c.plain.ensures.value c.if-plain-eq0.true
 
 pub change-requires-clause-row_value : goal.change-requires-clause-row_value
 change-requires-clause-row_value c =
