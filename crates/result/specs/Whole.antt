@@ -20,7 +20,7 @@ use Rattle.rules.specs.Ranges.{broker_trades, commission_total, money_most, pric
 use Rattle.rules.specs.Rules.{as_kind, fits, result_input}
 use Rattle.model.specs.Lots.{closings}
 use Rattle.model.specs.Result.{closed_lots, closing_rows, figures, lot_changes, posting, sums_of, view}
-use Rattle.model.specs.Rows.{is, most_records, nothing, rows, same_row}
+use Rattle.model.specs.Rows.{most_records, nothing, rows, same_row}
 use Rattle.model.specs.Sound.{s1, sound}
 use Rattle.facts.specs.Found.{sound_s1}
 use Rattle.facts.specs.Keys.{of_live}
