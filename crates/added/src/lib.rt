@@ -1,5 +1,6 @@
 // The rows that a result adds beside those of its lots, in the places that are free, lowest first.
 #![tactic(auto)]
+
 ghost use Rattle.std.specs.Prelude.{◌≤◌};
 ghost use Rattle.record.specs.Signed.{up};
 ghost use Rattle.kinds.specs.Written.{trade_row};

@@ -1,6 +1,7 @@
 // The calls that C can reach. Whatever bytes and lengths a call is given, it ends, and every byte that it leaves is
 // promised.
 #![tactic(auto)]
+
 ghost use Rattle.std.specs.Prelude.{◌≡◌, ◌<◌};
 ghost use Rattle.model.specs.Call.{Promise, feed_call, lookup_call, order_call, result_call};
 ghost use Rattle.model.specs.Rows.{places};

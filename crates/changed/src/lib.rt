@@ -1,5 +1,6 @@
 // The rows that a result changes or frees, each at the place where it stood before anything was written.
 #![tactic(auto)]
+
 ghost use Rattle.money.specs.Amounts.{UpTo};
 ghost use Rattle.std.specs.Prelude.{◌+◌, ◌≤◌};
 ghost use Rattle.rules.specs.Ranges.{broker_trades, commission_total, fee};

@@ -1,6 +1,7 @@
 // The lots that a trade closes, at the places where they were gathered: their histories are added first, and only then
 // the lots themselves change or go.
 #![tactic(auto)]
+
 ghost use Rattle.std.specs.Prelude.{◌≡◌, ◌+◌, ◌<◌, ◌≤◌, nat_abs, length, take};
 ghost use Rattle.record.specs.Signed.{up};
 ghost use Rattle.kinds.specs.Kinds.{lot_of};

@@ -1,5 +1,6 @@
 // S1: every record is free or fits the grid, decided on the record's own bytes.
 #![tactic(auto)]
+
 ghost use Rattle.std.specs.Prelude.{◌≡◌, true, length};
 ghost use Rattle.record.specs.Grid.{decode};
 ghost use Rattle.record.specs.Spelling.{symbol_ok};

@@ -1,6 +1,7 @@
 // What a result works out from what it reads and from the walk over its lots: tax, commission, settlement, and the
 // balance and the holding after it.
 #![tactic(auto)]
+
 ghost use Rattle.std.specs.Prelude.{true, ◌≡◌, ◌≤◌};
 ghost use Rattle.rules.specs.Ranges.{fee};
 ghost use Rattle.rules.specs.Rules.{result_input};

@@ -2,6 +2,7 @@
 // lots of an account and symbol and the requests on a symbol, in turn. What each function answers is what a loop over
 // the whole book would answer.
 #![tactic(auto)]
+
 pub mod band;
 pub mod lots;
 pub mod requests;

@@ -1,6 +1,7 @@
 // A row's key: its kind and the fields that name it, all other fields zero. Keys are ordered by kind and then by their
 // fields in the order of their bytes.
 #![tactic(auto)]
+
 ghost use Rattle.std.specs.Prelude.{◌≡◌, cond, ltb};
 ghost use Rattle.keys.specs.Key.{key_number, key_of, same_key};
 ghost use Rattle.keys.specs.Marks.{all_keys, marked_by, marks_of, trading_keys};

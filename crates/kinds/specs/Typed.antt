@@ -1,6 +1,6 @@
 -- A typed value that is written and read again is itself where its numbers fit: both ways of two's complement cancel.
 -- Assumes nothing.
-use Rattle.std.specs.Prelude.{◌≡◌, ℕ, ◌%◌, ◌^◌, ◌<◌, ◌≤◌, ℤ, pos, negsuc, nat_abs}
+use Rattle.std.specs.Prelude.{◌≡◌, ℕ, ◌^◌, ◌<◌, ◌≤◌, ℤ, pos, negsuc, nat_abs}
 use Rattle.std.proofs.Common.{ap, ◌∙◌, mod-eq_of_lt, arith, to_z, of_z}
 use Rattle.std.specs.Int.Signed.{mag}
 use Rattle.std.specs.Int.{w32, w64}

@@ -1,6 +1,7 @@
 // What the rules say, as definitions: specs/ is the one place that a reader must believe. Nothing runs here; the
 // answers of the calls are declared.
 #![tactic(auto)]
+
 use units::PerTenThousand;
 
 // What the search for a commission band answers: `band_answer` of specs/Band.antt says which of the three, and when.

@@ -1,6 +1,7 @@
 // What every call checks before it decides anything, and the directory that it is decided with. Nothing is written to
 // the book here.
 #![tactic(auto)]
+
 ghost use Rattle.std.specs.Prelude.{◌≡◌, true};
 ghost use Rattle.model.specs.Status.{is_done};
 ghost use Rattle.opening.specs.Opening.{Opened, Room, opening};

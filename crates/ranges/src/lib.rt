@@ -1,6 +1,7 @@
 // The ranges of the fields of each kind that stands whether or not there is trade: the constant of the kind, met with the
 // table of the model.
 #![tactic(auto)]
+
 ghost use Rattle.std.specs.Prelude.{◌≡◌};
 ghost use Rattle.rules.specs.Ranges.{ranges};
 ghost use Rattle.rules.specs.Rules.{account_limits, band_limits, broker_limits, charge_limits, customer_limits};

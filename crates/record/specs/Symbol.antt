@@ -1,6 +1,6 @@
 -- A symbol as a value: its bytes, its number for the order of keys and for the grid, and the test of equality. Nothing
 -- above this crate and `kinds` knows how long it is. Assumes nothing.
-use Rattle.std.specs.Prelude.{◌≡◌, refl, Bool, true, false, not, List, ℕ, ◌^◌, ◌<◌, eqb}
+use Rattle.std.specs.Prelude.{◌≡◌, refl, Bool, true, false, List, ℕ, ◌^◌, eqb}
 use Rattle.std.proofs.Common.{ap, eqb-true, eq-eqb, ne_eqb}
 use Rattle.std.proofs.lemmas.Bool.{eqb-false}
 use Rattle.laws.specs.Tests.{Means}

@@ -1,5 +1,6 @@
 // The shell of a call whose lengths are right: the checks, the inner call, and how it ends.
 #![tactic(auto)]
+
 ghost use Rattle.std.specs.Prelude.{◌≡◌, true, ◌*◌, length};
 ghost use Rattle.model.specs.Call.{Promise, lookup_call, most_inputs};
 ghost use Rattle.model.specs.Rows.{record_size, rows, whole_records};

@@ -1,5 +1,6 @@
 // The ranges of the fields of each kind that trade leaves: the constant of the kind, met with the table of the model.
 #![tactic(auto)]
+
 ghost use Rattle.std.specs.Prelude.{◌≡◌};
 ghost use Rattle.rules.specs.Ranges.{ranges};
 ghost use Rattle.rules.specs.Rules.{cash_limits, lot_history_limits, lot_limits, request_limits, settlement_limits};

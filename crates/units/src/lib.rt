@@ -1,6 +1,7 @@
 // The meta-types of clause 2.2.2, kept apart: a count of shares is never handed over as a count of cents, nor a trade
 // number as an account.
 #![tactic(auto)]
+
 ghost use Rattle.std.specs.Prelude.{◌≡◌, ◌+◌, ◌%◌, ◌^◌, ◌<◌, ◌≤◌, length, ◌+ℤ◌, ◌-ℤ◌, nat_abs, neg_ℤ, pos};
 ghost use Rattle.std.specs.Int.{w32, w64};
 ghost use Rattle.std.proofs.Common.{of_z, to_z};

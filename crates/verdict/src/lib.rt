@@ -1,5 +1,6 @@
 // What a result is refused for, in the order of checking.
 #![tactic(auto)]
+
 ghost use Rattle.std.specs.Prelude.{cond, ◌≡◌, ◌≤◌, leb, nat_abs};
 ghost use Rattle.record.specs.Signed.{up};
 ghost use Rattle.rules.specs.Ranges.{fee, money_most};

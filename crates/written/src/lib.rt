@@ -1,5 +1,6 @@
 // The rows that a result adds, those that it changes, and the one that it answers.
 #![tactic(auto)]
+
 ghost use Rattle.std.specs.Prelude.{◌≡◌, ◌+◌, ◌≤◌, nat_abs};
 ghost use Rattle.record.specs.Codes.{completed};
 ghost use Rattle.record.specs.Signed.{up};

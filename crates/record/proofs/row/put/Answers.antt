@@ -1,5 +1,5 @@
 -- One byte more is stored, and what is left of y is what is left of x.
-use Rattle.std.proofs.Common.{◌≡◌, ◌+◌, ◌-◌, ◌≤◌, sym, ◌∙◌, arith, length, length-set}
+use Rattle.std.proofs.Common.{◌+◌, ◌-◌, sym, ◌∙◌, arith}
 use Rattle.record.specs.Bytes.{stored, put_step, put_done}
 use Rattle.record.proofs.row.put.Goals as goal
 

@@ -1,5 +1,4 @@
 -- The thirty comparisons, in the order of the fields.
-use Rattle.std.proofs.Common.{refl}
 use Rattle.rules.specs.Ranges.{limited}
 use Rattle.rules.proofs.limited.in_limits.Goals as goal
 
