@@ -9,7 +9,6 @@ use Rattle.record.specs.Codes.{kind_lot}
 use Rattle.record.specs.declared.row.Row.{Row}
 use Rattle.kinds.specs.Inputs.{result_input_of}
 use Rattle.kinds.specs.Kinds.{trade_of}
-use Rattle.units.specs.Units.{shares}
 use Rattle.kinds.specs.declared.inputs.ResultInput.{ResultInput}
 use Rattle.rules.specs.Meaning.{means_lot}
 use Rattle.rules.specs.Ranges.{fee, price_most, shares_most}

@@ -1,6 +1,6 @@
 -- The fields of a kind's key as eight tests, in the way of the code: for each kind of the table, whether it is this one
 -- and its key has the field. `marks_tell`: they are the lists of the kinds, read off the same table. Assumes nothing.
-use Rattle.std.specs.Prelude.{◌≡◌, refl, Bool, true, false, cond, ◌&&◌, ◌||◌, List, [], ◌∷◌, ℕ, eqb, drop}
+use Rattle.std.specs.Prelude.{◌≡◌, refl, Bool, false, cond, ◌&&◌, ◌||◌, List, [], ◌∷◌, ℕ, eqb, drop}
 use Rattle.std.proofs.Common.{sym, ap, ◌∙◌}
 use Rattle.laws.specs.Tests.{or_assoc, or_false}
 use Rattle.record.specs.Symbol.{no_symbol}

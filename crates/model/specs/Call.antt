@@ -2,7 +2,7 @@
 -- the book as found; all answer bytes are zero but the status, signed, in bytes 60-63 (-100 excepted)." Assumes
 -- nothing.
 use Rattle.std.specs.Prelude.{◌≡◌, Bool, true, false, ◌&&◌, List, ◌++◌, ℕ, ◌*◌, ◌-◌, eqb, ℤ, length, replicate}
-use Rattle.std.proofs.Common.{sym, ◌∙◌, of_z}
+use Rattle.std.proofs.Common.{of_z}
 use Rattle.std.specs.Int.{w32}
 use Rattle.laws.specs.Search.{every}
 use Rattle.record.specs.Bytes.{bytes_of}

@@ -1,6 +1,6 @@
 -- Rows that give way to others at their places, or go, one after the other, while the directory stays right: no two are
 -- at the same place, so that each is still as it was when its turn comes. Assumes nothing.
-use Rattle.std.specs.Prelude.{◌≡◌, Bool, true, false, ℕ, ◌+◌, ◌-◌, ◌≤◌, eqb, get_or, set}
+use Rattle.std.specs.Prelude.{◌≡◌, Bool, true, false, ℕ, ◌-◌, ◌≤◌, eqb, get_or, set}
 use Rattle.std.proofs.Math.Path.{refl}
 use Rattle.std.proofs.Common.{sym, ap, ◌∙◌, arith, get_or-set_other, eq-eqb}
 use mathlib.Core.List.Memᴰ
