@@ -17,11 +17,7 @@ fn judged(kind: u8, part: &[u8]) -> bool
 fn copy_in(area: &mut [u8], at: usize, bytes: &[u8; 64])
     requires { at + 64 ≤ length area.old }
 {
-    let mut i = 0;
-    while i < 64 {
-        area[at + i] = bytes[i];
-        i += 1;
-    }
+    area[at..at + 64].copy_from_slice(bytes);
 }
 
 fn judged_at(kind: u8, area: &mut [u8], at: usize, bytes: &[u8; 64]) -> bool

@@ -10,6 +10,8 @@ mod text;
 
 use checked::accepted;
 use fill::set_all;
+use std::io;
+use std::io::Read;
 use text::find;
 
 // A good record, and where its name stands in the text.
@@ -20,29 +22,27 @@ struct Good {
     end: usize,
 }
 
-fn show(text: &[u8], from: usize, end: usize)
+// Output that is not taken changes nothing else: what follows is written, too.
+fn show(rt: &impl Print, text: &[u8], from: usize, end: usize)
     requires { (from ≤ end) × (end ≤ length text.now) }
 {
-    io::write_all(1, &text[from..end]);
+    let _ = rt.write_all(&text[from..end]);
 }
 
-fn say(fits: bool) {
-    if fits {
-        io::write_all(1, b": fits\n");
-    } else {
-        io::write_all(1, b": refused\n");
-    }
+fn say(rt: &impl Print, fits: bool) {
+    let word = if fits { "fits" } else { "refused" };
+    let _ = println!(rt; ": {word}");
 }
 
 // `NAME: FIELD=VALUE FIELD=VALUE ..`, all other fields zero.
-fn whole(text: &[u8], from: usize, colon: usize, end: usize) -> Good
+fn whole(rt: &impl Print, text: &[u8], from: usize, colon: usize, end: usize) -> Good
     requires { (from ≤ colon) × ((colon ≤ end) × (end ≤ length text.now)) }
     ensures { (result.from ≤ result.end) × (result.end ≤ length text.now) }
 {
     let mut bytes = [0u8; 64];
-    set_all(&mut bytes, text, colon + 2, end);
-    show(text, from, colon);
-    say(accepted(bytes[0], &bytes, from));
+    set_all(rt, &mut bytes, text, colon + 2, end);
+    show(rt, text, from, colon);
+    say(rt, accepted(bytes[0], &bytes, from));
     Good {
         bytes,
         from,
@@ -51,20 +51,20 @@ fn whole(text: &[u8], from: usize, colon: usize, end: usize) -> Good
 }
 
 // `FIELD=VALUE ..`, all other fields as in the good record.
-fn changed(text: &[u8], from: usize, end: usize, g: Good)
+fn changed(rt: &impl Print, text: &[u8], from: usize, end: usize, g: Good)
     requires from_le_end { (from ≤ end) × (end ≤ length text.now) }
     requires from_le_end_2 { (g.from ≤ g.end) × (g.end ≤ length text.now) }
 {
     let mut bytes = g.bytes;
     let kind = bytes[0];
-    set_all(&mut bytes, text, from, end);
-    show(text, g.from, g.end);
-    io::write_all(1, b", ");
-    show(text, from, end);
-    say(accepted(kind, &bytes, from));
+    set_all(rt, &mut bytes, text, from, end);
+    show(rt, text, g.from, g.end);
+    let _ = print!(rt; ", ");
+    show(rt, text, from, end);
+    say(rt, accepted(kind, &bytes, from));
 }
 
-fn line(text: &[u8], from: usize, end: usize, g: Good) -> Good
+fn line(rt: &impl Print, text: &[u8], from: usize, end: usize, g: Good) -> Good
     requires from_le_end { (from ≤ end) × (end ≤ length text.now) }
     requires from_le_end_2 { (g.from ≤ g.end) × (g.end ≤ length text.now) }
     ensures { (result.from ≤ result.end) × (result.end ≤ length text.now) }
@@ -78,13 +78,13 @@ fn line(text: &[u8], from: usize, end: usize, g: Good) -> Good
     let sign = find(text, from, end, b'=');
     let colon = find(text, from, sign, b':');
     if colon < sign {
-        return whole(text, from, colon, end);
+        return whole(rt, text, from, colon, end);
     }
-    changed(text, from, end, g);
+    changed(rt, text, from, end, g);
     g
 }
 
-fn run(text: &[u8]) {
+fn run(rt: &impl Print, text: &[u8]) {
     let mut g = Good {
         bytes: [0; 64],
         from: 0,
@@ -93,13 +93,18 @@ fn run(text: &[u8]) {
     let mut from = 0;
     while from < text.len() {
         let end = find(text, from, text.len(), b'\n');
-        g = line(text, from, end, g);
+        g = line(rt, text, from, end, g);
         from = end + 1;
     }
 }
 
-fn main() {
-    let mut buf = io::large_buffer();
-    let n = io::read_full(0, &mut buf);
-    run(&buf[..n]);
+// Longer input is cut off here.
+const MOST_TEXT: usize = 65_536;
+
+fn main(rt: HostRuntime) -> io::Result<()> {
+    let mut text = Vec::with_capacity(rt.alloc(), MOST_TEXT)?;
+    // A read that fails ends the input.
+    let _ = rt.stdin().take(MOST_TEXT as u64).read_to_end(&mut text);
+    run(&rt, text.as_slice());
+    Ok(())
 }

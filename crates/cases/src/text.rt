@@ -6,14 +6,12 @@ pub fn find(text: &[u8], from: usize, end: usize, b: u8) -> usize
     requires { (from ≤ end) × (end ≤ length text.now) }
     ensures { (from ≤ result) × (result ≤ end) }
 {
-    let mut i = from;
-    while i < end {
+    for i in from..end {
         if text[i] == b {
             return i;
         }
-        i += 1;
     }
-    i
+    end
 }
 
 fn digit(b: u8) -> u64
@@ -27,10 +25,8 @@ fn plain(text: &[u8], from: usize, end: usize) -> u64
     requires { end ≤ length text.now }
 {
     let mut x: u64 = 0;
-    let mut i = from;
-    while i < end {
+    for i in from..end {
         x = x % 1_000_000_000_000_000_000 * 10 + digit(text[i]);
-        i += 1;
     }
     x
 }
@@ -41,7 +37,7 @@ pub fn number(text: &[u8], from: usize, end: usize) -> u64
 {
     if from < end {
         if text[from] == b'-' {
-            return std::num::wrapping_sub_u64(0, plain(text, from + 1, end));
+            return 0u64.wrapping_sub(plain(text, from + 1, end));
         }
     }
     plain(text, from, end)

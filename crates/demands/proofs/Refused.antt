@@ -20,7 +20,7 @@ use Rattle.model.proofs.Unposted.{refusal_leaves}
 use Rattle.model.specs.declared.Status.{Status}
 use Rattle.model.specs.declared.Status.TheVariants.{BadBook, BadInput, BadLength, Done, Unsound}
 use Rattle.facts.specs.Status.{done_number, fits_32, number_back}
-use Rattle.preserved.specs.Calls.{uncalled}
+use Rattle.preserved.proofs.Calls.{uncalled}
 use Rattle.preserved.specs.Cases.{by_cases, not_so}
 use Rattle.demands.specs.Demand1.{Demand1, Keeps, Says}
 

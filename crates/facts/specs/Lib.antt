@@ -10,5 +10,4 @@ pub mod Money
 pub mod Status
 pub mod Checks
 pub mod Posted
-pub mod Result
 pub mod Feed

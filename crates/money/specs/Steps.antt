@@ -35,22 +35,6 @@ module _ (amount rate whole : ℕ) where
   abbrev pub part : ℕ
   part = from_quotient + from_remainder
 
-  -- the law, for all numbers: whole part and remainder round to what the whole product rounds to
-  pub by_parts : 0 < whole → rounded (amount * rate) whole ≡ from_quotient + rounded product whole
-  by_parts h =
-      let split : amount * rate ≡ whole * from_quotient + product =
-      ap (λ (n : ℕ). n * rate) (sym (div-add-mod amount whole))
-      ∙ add-mul (whole * quotient) remainder rate
-      ∙ ap (λ (n : ℕ). n + product) (mul_assoc whole quotient rate)
-      in
-      let twice : 2 * (amount * rate) + whole ≡ 2 * whole * from_quotient + (2 * product + whole) =
-      omega (arith, split, mul_assoc 2 whole from_quotient)
-      in
-      ap (λ (n : ℕ). n / (2 * whole)) twice ∙ mul-add-div (omega arith) from_quotient (2 * product + whole)
-
-  pub part_is : 0 < whole → whole ≡ 2 * (whole / 2) → part ≡ rounded (amount * rate) whole
-  part_is h e = sym (by_parts h ∙ ap (λ (n : ℕ). from_quotient + n) (sym (half_up product whole e)))
-
 pub record PartBelow (amount rate whole : ℕ) : Type 0 where
   pub quotient_below : quotient amount rate whole < 2 ^ 62
   pub remainder_below : remainder amount rate whole < 2 ^ 62
@@ -60,45 +44,6 @@ pub record PartBelow (amount rate whole : ℕ) : Type 0 where
   pub from_remainder_below : from_remainder amount rate whole < 2 ^ 62
   pub part_below : part amount rate whole < 2 ^ 62
   pub part_fits : part amount rate whole ≤ fee.high
-
-pub part_steps : (amount rate whole : ℕ) → amount ≤ value_most → rate ≤ whole → 0 < whole → whole ≤ tax_whole
-    → PartBelow amount rate whole
-part_steps amount rate whole a r h w =
-    let q = div-le_self amount whole in
-    let m = mod-lt amount h in
-    let f : amount / whole * rate ≤ amount =
-    le_trans (mul-le-mul_left (amount / whole) r) (div-mul-le_self amount whole)
-    in
-    let p : amount % whole * rate ≤ rate * whole = omega (arith, mul_comm rate whole, mul-le-mul_right rate m) in
-    let t : rate * whole ≤ tax_whole * tax_whole = mul-le-mul {n₂ = tax_whole} (omega arith) w in
-    let n = nearest_most (amount % whole * rate) whole rate h p in
-    record {
-      quotient_below = omega arith;
-      remainder_below = omega arith;
-      from_quotient_below = omega arith;
-      product_below = omega arith;
-      raised_below = omega arith;
-      from_remainder_below = omega arith;
-      part_below = omega arith;
-      part_fits = omega arith;
-    }
-
--- ---- the tax: the gain, and its part by the rates
-pub tax_steps : (rates bought sold : ℕ) → rates ≤ tax_whole → sold ≤ value_most
-    → (sold - bought < 2 ^ 62) × PartBelow (sold - bought) rates tax_whole
-tax_steps rates bought sold r s =
-    (omega arith, part_steps (sold - bought) rates tax_whole (omega arith) r (omega arith) (omega arith))
-
--- the product that the rule is written with passes the largest signed number
-pub whole_product_passes : 2 ^ 63 ≤ (shares_most * price_most - shares_most * 1) * tax_whole
-whole_product_passes = omega arith
-
--- ---- the commission: the value, and its part by the rate
-pub commission_steps : (rate shares price : ℕ) → rate ≤ commission_whole → shares ≤ shares_most → price ≤ price_most
-    → (shares * price < 2 ^ 62) × PartBelow (shares * price) rate commission_whole
-commission_steps rate shares price r s p =
-    let v = value_most_holds shares price s p in
-    (omega arith, part_steps (shares * price) rate commission_whole v r (omega arith) (omega arith))
 
 -- ---- the settlement, of a buy and of a sell
 module _ (value charge commission : ℕ) where
@@ -122,39 +67,3 @@ pub record SettlementBelow (value charge commission held : ℕ) : Type 0 where
   pub without_charge_below : nat_abs (without_charge value charge commission) < 2 ^ 62
   pub received_below : nat_abs (received value charge commission) < 2 ^ 62
   pub sold_below : nat_abs (received value charge commission -ℤ pos held) < 2 ^ 62
-
-kept_most : (status tax : ℕ) → kept status tax ≤ tax
-kept_most status tax = go (eqb status 1)
-  where
-    go : (t : Bool) → cond t tax 0 ≤ tax
-    go true = omega arith
-    go false = omega arith
-
-abs_less : (a : ℤ) (n : ℕ) → nat_abs (a -ℤ pos n) ≤ nat_abs a + n
-abs_less a n = omega (arith, abs_add a (neg_ℤ (pos n)), abs_neg (pos n))
-
-pub settlement_steps : (status value charge commission tax : ℕ) → value ≤ value_most → charge ≤ charged.high
-    → commission ≤ fee.high
-    → tax ≤ fee.high
-    → SettlementBelow value charge commission (kept status tax)
-settlement_steps status value charge commission tax v c m t =
-    let k = kept_most status tax in
-    let n = abs_neg (paid value charge commission) in
-    let b = abs_less (neg_ℤ (paid value charge commission)) (kept status tax) in
-    let w = abs_less (pos value) charge in
-    let r = abs_less (without_charge value charge commission) commission in
-    let s = abs_less (received value charge commission) (kept status tax) in
-    record {
-      with_charge_below = omega arith;
-      paid_below = omega arith;
-      negated_below = omega arith;
-      bought_below = omega arith;
-      without_charge_below = omega arith;
-      received_below = omega arith;
-      sold_below = omega arith;
-    }
-
--- ---- the balance after it
-pub balance_step : (old settlement : ℤ) → nat_abs old ≤ money_most → nat_abs settlement ≤ money_most
-    → nat_abs (old +ℤ settlement) < 2 ^ 62
-balance_step old settlement o s = omega (arith, abs_add old settlement)

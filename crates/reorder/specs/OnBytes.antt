@@ -21,7 +21,7 @@ use Rattle.record.specs.Codes.{kind_trade}
 use Rattle.record.specs.Grid.{decode}
 use Rattle.keys.specs.declared.Key.{Key}
 use Rattle.record.specs.declared.row.Row.{Row}
-use Rattle.rules.specs.Meaning.{means_fits, means_trade}
+use Rattle.rules.proofs.Meaning.{means_fits, means_trade}
 use Rattle.rules.specs.Ranges.{limited}
 use Rattle.rules.specs.Rules.{as_kind, obeys, result_input, result_input_shape}
 use Rattle.model.specs.declared.Status.TheVariants.{BadInput, BadLength, NoRoom, OverLimit}
@@ -36,7 +36,8 @@ use Rattle.facts.specs.Found.{found_has, found_kind, found_member, found_none, s
 use Rattle.facts.specs.Names.{by_id_holds}
 use Rattle.preserved.specs.Bytes.{length_bytes, rows_bytes}
 use Rattle.preserved.specs.Cases.{by_cases, cond_no, cond_yes}
-use Rattle.preserved.specs.Calls.{SoundBytes, uncalled}
+use Rattle.preserved.specs.Calls.{SoundBytes}
+use Rattle.preserved.proofs.Calls.{uncalled}
 use Rattle.reorder.specs.Local.{Fine}
 use Rattle.reorder.specs.Run.{note_to, on}
 use Rattle.reorder.specs.Sim.{Fines, final, trace}

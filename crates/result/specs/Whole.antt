@@ -15,12 +15,12 @@ use Rattle.kinds.specs.Inputs.{result_input_of}
 use Rattle.kinds.specs.Kinds.{broker_of, trade_of}
 use Rattle.kinds.specs.Written.{trade_row}
 use Rattle.kinds.specs.declared.inputs.ResultInput.{ResultInput}
-use Rattle.rules.specs.Meaning.{means_lot, means_result_input}
+use Rattle.rules.proofs.Meaning.{means_lot, means_result_input}
 use Rattle.rules.specs.Ranges.{broker_trades, commission_total, money_most, price_most, shares_most}
 use Rattle.rules.specs.Rules.{as_kind, fits, result_input}
 use Rattle.model.specs.Lots.{closings}
 use Rattle.model.specs.Result.{closed_lots, closing_rows, figures, lot_changes, posting, sums_of, view}
-use Rattle.model.specs.Rows.{is, most_records, nothing, rows, same_row}
+use Rattle.model.specs.Rows.{most_records, nothing, rows, same_row}
 use Rattle.model.specs.Sound.{s1, sound}
 use Rattle.facts.specs.Found.{sound_s1}
 use Rattle.facts.specs.Keys.{of_live}

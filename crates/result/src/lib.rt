@@ -5,7 +5,7 @@
 ghost use Rattle.std.specs.Prelude.{true, ◌≡◌, length};
 ghost use Rattle.record.specs.Grid.{decode};
 ghost use Rattle.rules.specs.Rules.{result_input};
-ghost use Rattle.model.specs.Result.{result};
+ghost use Rattle.model.specs.Result.{result as trade_result};
 ghost use Rattle.model.specs.Rows.{most_records, record_size, rows, whole_records};
 ghost use Rattle.model.specs.Sound.{sound};
 ghost use Rattle.places.specs.Rows.{put_at};
@@ -29,7 +29,7 @@ use verdict::judge;
 use written::answer_row;
 
 fn write_answer(answer: &mut [u8], trade: Trade, figures: Figures)
-    ensures* { λ _. ⌜ answer.new ≡ put_at answer.old 0 (answer_of trade figures) ⌝ }
+    ensures { answer.new ≡ put_at answer.old 0 (answer_of trade figures) }
 {
     put(answer, 0, answer_row(trade, figures));
 }
@@ -41,12 +41,11 @@ pub fn result(book: &mut [u8], dir: &mut [u16], t: Totals, input: &[u8], answer:
     requires book_value { (sound (rows book.old) ≡ true) × (whole_records most_records (length book.old) ≡ true) }
     requires input_len { (length input.now ≡ record_size) × (result_input (decode input.now) ≡ true) }
     requires answer_len { length answer.old ≡ record_size }
-    ensures* status_value { λ r. ⌜ r.status ≡ (result (rows book.old) (decode input.now)).status ⌝ }
-    ensures* book_after { λ _. ⌜ book.new
-        ≡ book_left (result (rows book.old) (decode input.now)) book.old ⌝ }
-    ensures* answer_after { λ _. ⌜ answer.new
-        ≡ answer_left (result (rows book.old) (decode input.now)) answer.old ⌝ }
-    ensures* fact { λ r. ⌜ Directory book.new dir.new r.totals ⌝ }
+    ensures status_value { result.status ≡ (trade_result (rows book.old) (decode input.now)).status }
+    ensures book_after { book.new ≡ book_left (trade_result (rows book.old) (decode input.now)) book.old }
+    ensures answer_after { answer.new
+        ≡ answer_left (trade_result (rows book.old) (decode input.now)) answer.old }
+    ensures fact { Directory book.new dir.new result.totals }
 {
     let what = ResultInput::from_bytes(input);
     let terms = terms_of(book, dir, what);

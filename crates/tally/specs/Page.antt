@@ -2,7 +2,10 @@
 use Rattle.std.specs.Prelude.{◌≡◌, refl, List, [], ◌∷◌, ◌++◌, ℕ, ◌+◌, ◌≤◌, ◌<◌, min, length, take, get_or, set}
 use Rattle.std.proofs.Common.{sym, ap, ◌∙◌, append_assoc, append-nil, add-zero, add-one, arith, length-append, length-set, length-take, take_all, take-suc, take-suc-set}
 use Rattle.std.proofs.Math.Nat.{min-le_right}
-use Rattle.io.specs.Counts.{IsPrefixLen}
+
+-- the first n bytes of a page are there, and are n
+abbrev pub IsPrefixLen : ℕ → List ℕ → Type 0
+IsPrefixLen n xs = (n ≤ length xs) × (n ≡ length (take n xs))
 
 -- a page after a text was written at a place of it: up to the end of the text it has what stood before, and the text
 pub record Wrote (old : List ℕ) (at : ℕ) (new : List ℕ) (end : ℕ) (text : List ℕ) : Type 0 where

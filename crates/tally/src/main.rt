@@ -2,14 +2,21 @@
 // status, or that it is refused.
 #![tactic(auto)]
 
-ghost use Rattle.std.specs.Prelude.{◌≡◌, ◌≤◌, length, take};
-ghost use Rattle.io.specs.Counts.{IsPrefixLen};
+ghost use Rattle.std.specs.Prelude.{◌≡◌, ◌≤◌, length, take, OnOk};
+ghost use Rattle.tally.specs.Page.{IsPrefixLen};
 ghost use Rattle.tally.specs.Text.{answer};
+ghost use Rattle.tally.specs.Told.{IsTold};
 
+mod input;
+#[cfg(test)]
+mod tests;
 mod text;
 
+use input::read_full;
 use model::Status;
 use record::row::Grid;
+use std::io;
+use std::io::{Read, Write};
 use text::{put, put_square};
 
 const MOST_RECORDS: usize = 1_024;
@@ -33,10 +40,18 @@ const AREA: usize = MOST_RECORDS * Grid::SIZE + 1;
 // Five lines of at most 67 bytes.
 const PAGE: usize = 335;
 
-fn main() {
+// Reads a book, and prints what is to be printed of it.
+fn run<R: Read, W: Write>(input: &mut R, output: &mut W) -> io::Result<()>
+    ensures { OnOk result (IsTold (R.remaining input.old) (R.remaining input.new) (W.contents output.old) (W.contents output.new)) }
+{
     let mut area = [0u8; AREA];
-    let n = io::read_full(0, &mut area);
+    let n = read_full(input, &mut area);
     let mut page = [0u8; PAGE];
     let k = answer(&area[..n], &mut page);
-    io::write_all(1, &page[..k]);
+    output.write_all(&page[..k])
+}
+
+// Nothing is told of output that is not taken.
+fn main(rt: HostRuntime) {
+    let _ = run(&mut rt.stdin(), &mut rt.stdout());
 }

@@ -3,6 +3,8 @@ ghost use Rattle.std.specs.Prelude.{[], ◌∷◌, ◌+◌, ◌<◌, ◌≤◌, 
 ghost use Rattle.tally.specs.Page.{Wrote};
 ghost use Rattle.tally.specs.Text.{count, line, square};
 
+use itoa::Buffer;
+
 fn put_byte(page: &mut [u8], at: usize, b: u8) -> usize
     requires { at < length page.old }
     ensures { Wrote page.old at page.new result (b ∷ []) }
@@ -29,10 +31,9 @@ fn put_count(page: &mut [u8], at: usize, n: usize) -> usize
     ensures wrote { Wrote page.old at page.new result (count n) }
     ensures small { result ≤ at + 21 }
 {
-    let mut digits = [0u8; 20];
-    let k = io::decimal(n as u64, &mut digits);
+    let mut digits = Buffer::new();
     let next = put_byte(page, at, b' ');
-    put(page, next, &digits[..k])
+    put(page, next, digits.format(n).as_bytes())
 }
 
 // A type's code and its counts.

@@ -1,7 +1,7 @@
 -- Every number on the way has a name in `Steps`, and the last is what the rules have.
 use Rattle.std.proofs.Common.{ℕ, ap, pos}
 use Rattle.units.specs.Units.{cents}
-use Rattle.money.specs.Steps.{part_is}
+use Rattle.money.proofs.Steps.{part_is}
 use Rattle.money.proofs.parts.part.Goals as goal
 
 pub returns-clause-value : goal.returns-clause-value
