@@ -6,16 +6,16 @@ use Rattle.std.specs.Fmt.{decimal as printed, digit_glyph, digits_onto, digits}
 use Rattle.tally.specs.Text.{decimal, figure, figures}
 
 -- the ASCII code of a digit below 16: `0` to `9`, then `a` to `f`
-abbrev hex_digit_ascii : ℕ → ℕ
+abbrev pub hex_digit_ascii : ℕ → ℕ
 hex_digit_ascii d = cond (ltb d 10) (48 + d) (87 + d)
 
 -- the last k digits of n in base b, the most significant first
-abbrev last_digits : ℕ → ℕ → ℕ → List ℕ
+abbrev pub last_digits : ℕ → ℕ → ℕ → List ℕ
 last_digits b zero n = []
 last_digits b (suc k) n = last_digits b k (n / b) ++ (hex_digit_ascii (n % b) ∷ [])
 
 -- n takes k digits in base b, when padded to `width` digits
-abbrev IsDigitCount : ℕ → ℕ → ℕ → ℕ → Type 0
+abbrev pub IsDigitCount : ℕ → ℕ → ℕ → ℕ → Type 0
 IsDigitCount b width n k = (width ≤ k) × (n < b ^ k) × (width < k → b ^ (k - 1) ≤ n)
 
 glyph_figure : (d : ℕ) → d < 10 → hex_digit_ascii d ≡ figure d
