@@ -26,43 +26,58 @@ const OTHER: usize = 256 * 1_024;
 const LINE: usize = 32;
 const MEASURED: [Call; 3] = [Call::Lookup, Call::Order, Call::Result];
 
-/// A slice as the library's functions pass it on.
-#[repr(C)]
+/// A slice: the library's functions take its two parts one after the other.
+#[derive(Clone, Copy)]
 struct Lent(*const u8, usize);
 
-/// The number of free places, and the largest trade number.
-type Totals = [u64; 2];
+/// The number of free places, and the largest trade number, in one order or the other; taken one after the other.
+#[repr(C)]
+#[derive(Clone, Copy)]
+struct Totals(u64, u64);
 /// The status and the totals of an inner call, wherever they stand.
 type Ended = [u64; 8];
 
 extern "C" {
     #[link_name = "directory::build::build"]
-    fn build(totals: *mut Totals, book: *const Lent, dir: *const Lent);
+    fn build(book: *const u8, book_len: usize, dir: *const u8, dir_len: usize) -> Totals;
     #[link_name = "lookup::lookup"]
     fn lookup(
-        ended: *mut Ended,
-        book: *const Lent,
-        dir: *const Lent,
-        input: *const Lent,
-        answer: *const Lent,
-    );
+        book: *const u8,
+        book_len: usize,
+        dir: *const u8,
+        dir_len: usize,
+        input: *const u8,
+        input_len: usize,
+        answer: *const u8,
+        answer_len: usize,
+    ) -> u8;
     #[link_name = "order::order"]
     fn order(
         ended: *mut Ended,
-        book: *const Lent,
-        dir: *const Lent,
-        totals: *const Totals,
-        input: *const Lent,
-        answer: *const Lent,
+        book: *const u8,
+        book_len: usize,
+        dir: *const u8,
+        dir_len: usize,
+        first: u64,
+        second: u64,
+        input: *const u8,
+        input_len: usize,
+        answer: *const u8,
+        answer_len: usize,
     );
     #[link_name = "result::result"]
     fn result(
         ended: *mut Ended,
-        book: *const Lent,
-        dir: *const Lent,
-        totals: *const Totals,
-        input: *const Lent,
-        answer: *const Lent,
+        book: *const u8,
+        book_len: usize,
+        dir: *const u8,
+        dir_len: usize,
+        first: u64,
+        second: u64,
+        input: *const u8,
+        input_len: usize,
+        answer: *const u8,
+        answer_len: usize,
     );
 }
 
@@ -78,9 +93,10 @@ fn directory(book: &[u8]) -> (Vec<u16>, Totals) {
         128..=1_023 => 4_096,
         _ => 32_768,
     };
-    let (dir, mut totals) = (vec![records as u16; cells], [0; 2]);
+    let dir = vec![records as u16; cells];
+    let (Lent(b, b_len), Lent(d, d_len)) = (lent(book), lent(&dir));
     // SAFETY: the book has at most 4,096 records, and all cells of the directory hold their number.
-    unsafe { build(&mut totals, &lent(book), &lent(&dir)) };
+    let totals = unsafe { build(b, b_len, d, d_len) };
     (dir, totals)
 }
 
@@ -91,15 +107,17 @@ fn read(area: &[u8]) -> u8 {
 
 /// The seconds that the inner call takes.
 fn timed(call: Call, book: &[u8], dir: &[u16], totals: &Totals, case: &Case) -> f64 {
-    let (book, dir, input, answer) = (lent(book), lent(dir), lent(&case.input), lent(&case.answer));
+    let (Lent(b, b_len), Lent(d, d_len)) = (lent(book), lent(dir));
+    let (Lent(i, i_len), Lent(a, a_len)) = (lent(&case.input), lent(&case.answer));
+    let Totals(first, second) = *totals;
     let mut ended = [0; 8];
     let start = Instant::now();
     // SAFETY: the book is sound, the directory is the book's, and the lengths are those of the call.
     unsafe {
         match call {
-            Call::Lookup => lookup(&mut ended, &book, &dir, &input, &answer),
-            Call::Order => order(&mut ended, &book, &dir, totals, &input, &answer),
-            _ => result(&mut ended, &book, &dir, totals, &input, &answer),
+            Call::Lookup => ended[0] = lookup(b, b_len, d, d_len, i, i_len, a, a_len).into(),
+            Call::Order => order(&mut ended, b, b_len, d, d_len, first, second, i, i_len, a, a_len),
+            _ => result(&mut ended, b, b_len, d, d_len, first, second, i, i_len, a, a_len),
         }
     }
     let taken = start.elapsed();
