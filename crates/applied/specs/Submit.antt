@@ -17,10 +17,10 @@ use Rattle.record.specs.Codes.{kind_free, kind_request, kind_security, kind_trad
 use Rattle.record.specs.Signed.{up}
 use Rattle.record.specs.Symbol.{same_symbol}
 use Rattle.record.specs.declared.row.Row.{Row}
-use Rattle.rules.proofs.Meaning.{means_security, means_trade}
+use Rattle.rules.specs.Meaning.{means_security, means_trade}
 use Rattle.rules.specs.Ranges.{m1, n1, volume, when}
 use Rattle.rules.specs.Rules.{as_kind, fits}
-use Rattle.rules.proofs.Typed.{security_written, trade_written}
+use Rattle.rules.specs.Typed.{security_written, trade_written}
 use Rattle.keys.specs.declared.Key.{Key}
 use Rattle.kinds.specs.Inputs.{feed_input_of}
 use Rattle.kinds.specs.Kinds.{request_of, security_of, trade_of}

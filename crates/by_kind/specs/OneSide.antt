@@ -18,7 +18,7 @@ use Rattle.record.specs.Codes.{kind_lot, kind_summary}
 use Rattle.record.specs.Signed.{dn, to_z_high, up}
 use Rattle.record.specs.Symbol.{same_symbol_holds, same_symbol, symbol_same}
 use Rattle.record.specs.declared.row.Row.{Row}
-use Rattle.rules.proofs.Meaning.{means_lot}
+use Rattle.rules.specs.Meaning.{means_lot}
 use Rattle.rules.specs.Rules.{as_kind, fits}
 use Rattle.model.specs.Names.{a_summary}
 use Rattle.model.specs.Rows.{has_key, is, nothing, there}

@@ -15,7 +15,7 @@ use Rattle.record.specs.declared.symbol.Symbol.{Symbol}
 use Rattle.kinds.specs.Kinds.{trade_of}
 use Rattle.kinds.specs.declared.rows.Trade.{Trade}
 use Rattle.keys.specs.declared.Key.{Key}
-use Rattle.rules.proofs.Meaning.{means_security, means_trade}
+use Rattle.rules.specs.Meaning.{means_security, means_trade}
 use Rattle.rules.specs.Rules.{as_kind, fits}
 use Rattle.model.specs.Names.{a_security, a_trade}
 use Rattle.model.specs.Rows.{has_key, is, nothing, rows}

@@ -10,7 +10,6 @@ mod text;
 
 use checked::accepted;
 use fill::set_all;
-use std::io;
 use std::io::Read;
 use text::find;
 
@@ -101,10 +100,24 @@ fn run(rt: &impl Print, text: &[u8]) {
 // Longer input is cut off here.
 const MOST_TEXT: usize = 65_536;
 
-fn main(rt: HostRuntime) -> io::Result<()> {
-    let mut text = Vec::with_capacity(rt.alloc(), MOST_TEXT)?;
-    // A read that fails ends the input.
-    let _ = rt.stdin().take(MOST_TEXT as u64).read_to_end(&mut text);
-    run(&rt, text.as_slice());
-    Ok(())
+// Reads until the area is full or the input ends, and answers how many bytes it put there. A read that fails ends the
+// input.
+fn read_full<R: Read>(input: &mut R, area: &mut [u8]) -> usize
+    ensures { result ≤ length area.new }
+{
+    let mut done = 0;
+    while done < area.len() {
+        match input.read(&mut area[done..]) {
+            Ok(0) => break,
+            Ok(n) => done += n,
+            Err(_) => break,
+        }
+    }
+    done
+}
+
+fn main(rt: HostRuntime) {
+    let mut text = [0u8; MOST_TEXT];
+    let n = read_full(&mut rt.stdin(), &mut text);
+    run(&rt, &text[..n]);
 }

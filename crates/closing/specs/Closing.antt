@@ -11,7 +11,7 @@ use Rattle.record.specs.Symbol.{same_symbol}
 use Rattle.record.specs.declared.row.Row.{Row}
 use Rattle.record.specs.declared.symbol.Symbol.{Symbol}
 use Rattle.units.specs.declared.AccountNo.{AccountNo}
-use Rattle.rules.proofs.Meaning.{means_lot}
+use Rattle.rules.specs.Meaning.{means_lot}
 use Rattle.rules.specs.Ranges.{price_most}
 use Rattle.rules.specs.Rules.{as_kind, fits}
 use Rattle.model.specs.Flags.{lifo}

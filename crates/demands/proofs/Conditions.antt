@@ -21,8 +21,8 @@ use Rattle.record.specs.Symbol.{means_same, same_symbol}
 use Rattle.keys.specs.declared.Key.{Key}
 use Rattle.record.specs.declared.row.Row.{Row}
 use Rattle.record.specs.declared.symbol.Symbol.{Symbol}
-use Rattle.rules.proofs.Meaning.{means_account, means_feed_input, means_lookup_input, means_order_input}
-use Rattle.rules.proofs.Meaning.{means_result_input}
+use Rattle.rules.specs.Meaning.{means_account, means_feed_input, means_lookup_input, means_order_input}
+use Rattle.rules.specs.Meaning.{means_result_input}
 use Rattle.rules.specs.Ranges.{tax_status}
 use Rattle.rules.specs.Rules.{as_kind}
 use Rattle.model.specs.declared.BandAnswer.{BandAnswer}

@@ -10,7 +10,7 @@ use Rattle.record.specs.Codes.{kind_account, kind_band, kind_charge, kind_permis
 use Rattle.record.specs.Grid.{decode}
 use Rattle.record.specs.declared.row.Row.{Row}
 use Rattle.record.specs.declared.symbol.Symbol.{Symbol}
-use Rattle.rules.proofs.Meaning.{FeedInput, LookupInput, OrderInput, ResultInput}
+use Rattle.rules.specs.Meaning.{FeedInput, LookupInput, OrderInput, ResultInput}
 use Rattle.rules.specs.Ranges.{broker_trades, commission_total, money_most, trade_number, volume}
 use Rattle.model.specs.declared.Status.{Status}
 use Rattle.model.specs.declared.Status.TheVariants.{BadBook, BadInput, BadLength, Done, FeedNoSecurity, LookupNoTrade}

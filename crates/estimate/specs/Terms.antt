@@ -15,7 +15,7 @@ use Rattle.kinds.specs.declared.rows.Security.{Security}
 use Rattle.units.specs.declared.AccountNo.{AccountNo}
 use Rattle.units.specs.declared.Cents.{Cents}
 use Rattle.units.specs.declared.PerHundredThousand.{PerHundredThousand}
-use Rattle.rules.proofs.Meaning.{means_order_input}
+use Rattle.rules.specs.Meaning.{means_order_input}
 use Rattle.rules.specs.Ranges.{commission_part, price_most, shares_most, tax_part}
 use Rattle.rules.specs.Rules.{order_input}
 use Rattle.model.specs.declared.BandAnswer.{BandAnswer}

@@ -10,4 +10,5 @@ pub mod Money
 pub mod Status
 pub mod Checks
 pub mod Posted
+pub mod Result
 pub mod Feed

@@ -15,8 +15,9 @@ use Rattle.record.specs.Codes.{kind_security, kind_trade}
 use Rattle.record.specs.Symbol.{same_symbol}
 use Rattle.record.specs.declared.row.Row.{Row}
 use Rattle.record.specs.declared.symbol.Symbol.{Symbol}
-use Rattle.rules.proofs.Meaning.{means_account, means_band, means_fits, means_lot, means_result_input, means_security}
-use Rattle.rules.proofs.Meaning.{means_trade}
+use Rattle.rules.specs.Meaning.{means_account, means_band, means_lot, means_result_input, means_security}
+use Rattle.rules.proofs.Fits.{means_fits}
+use Rattle.rules.specs.Meaning.{means_trade}
 use Rattle.rules.specs.Ranges.{charged, commission_part, money_most, price_most, shares_most, tax_part, trade_number}
 use Rattle.rules.specs.Rules.{as_kind, fits, result_input}
 use Rattle.model.specs.Band.{answer_of, band_answer, band_for, commission_rate}

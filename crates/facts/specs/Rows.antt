@@ -16,7 +16,7 @@ use Rattle.record.specs.Grid.{decode, row_eq}
 use Rattle.record.specs.Symbol.{numbered, same_symbol, symbol_eq, symbol_itself, symbol_number}
 use Rattle.keys.specs.declared.Key.{Key}
 use Rattle.record.specs.declared.row.Row.{Row}
-use Rattle.rules.proofs.Meaning.{means_free}
+use Rattle.rules.specs.Meaning.{means_free}
 use Rattle.rules.specs.Rules.{as_kind, fits}
 use Rattle.model.specs.Rows.{found, has_key, most_records, nothing, rows, same_row, there}
 use Rattle.model.specs.Sound.{s1}

@@ -10,7 +10,7 @@ use Rattle.record.specs.declared.row.Row.{Row}
 use Rattle.kinds.specs.Inputs.{result_input_of}
 use Rattle.kinds.specs.Kinds.{trade_of}
 use Rattle.kinds.specs.declared.inputs.ResultInput.{ResultInput}
-use Rattle.rules.proofs.Meaning.{means_lot}
+use Rattle.rules.specs.Meaning.{means_lot}
 use Rattle.rules.specs.Ranges.{fee, price_most, shares_most}
 use Rattle.rules.specs.Rules.{as_kind, fits, result_input}
 use Rattle.model.specs.Lots.{closings, taken}

@@ -23,7 +23,7 @@ use Rattle.kinds.specs.declared.rows.TaxRate.{TaxRate}
 use Rattle.kinds.specs.declared.rows.Lot.{Lot}
 use Rattle.keys.specs.Key.{key_of}
 use Rattle.keys.specs.declared.Key.{Key}
-use Rattle.rules.proofs.Meaning.{means_lot}
+use Rattle.rules.specs.Meaning.{means_lot}
 use Rattle.rules.specs.Ranges.{shares_most}
 use Rattle.rules.specs.Rules.{as_kind, fits}
 use Rattle.model.specs.Band.{band_for}

@@ -23,7 +23,7 @@ use Rattle.kinds.specs.declared.rows.Trade.{Trade}
 use Rattle.keys.specs.Key.{among, key_of}
 use Rattle.keys.specs.KeyLaws.{keys_tell, same_keys}
 use Rattle.keys.specs.declared.Key.{Key}
-use Rattle.rules.proofs.Meaning.{means_trade, means_trade_history}
+use Rattle.rules.specs.Meaning.{means_trade, means_trade_history}
 use Rattle.rules.specs.Rules.{as_kind, fits}
 use Rattle.model.specs.Flags.{cash}
 use Rattle.model.specs.Names.{a_cash, a_history, a_request, a_settlement, a_trade, by_id}

@@ -19,7 +19,7 @@ use Rattle.record.specs.Signed.{up}
 use Rattle.record.specs.Symbol.{same_symbol}
 use Rattle.record.specs.declared.row.Row.{Row}
 use Rattle.record.specs.declared.symbol.Symbol.{Symbol}
-use Rattle.rules.proofs.Meaning.{means_security}
+use Rattle.rules.specs.Meaning.{means_security}
 use Rattle.rules.specs.Ranges.{volume}
 use Rattle.rules.specs.Rules.{as_kind}
 use Rattle.model.specs.declared.Status.{Status}

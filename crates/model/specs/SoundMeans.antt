@@ -15,7 +15,7 @@ use Rattle.record.specs.Signed.{eq_parts, le_parts, parts_le}
 use Rattle.record.specs.Symbol.{means_same}
 use Rattle.keys.specs.declared.Key.{Key}
 use Rattle.record.specs.declared.row.Row.{Row}
-use Rattle.rules.proofs.Meaning.{Fits, means_fits}
+use Rattle.rules.proofs.Fits.{Fits, means_fits}
 use Rattle.rules.specs.Ranges.{tax_part}
 use Rattle.model.specs.Flags.{cash}
 use Rattle.model.specs.Names.{a_cash, a_history, a_request, a_settlement, a_summary, a_trade, named}

@@ -16,7 +16,7 @@ use Rattle.kinds.specs.Kinds.{account_of, security_of}
 use Rattle.kinds.specs.Typed.{low_nat}
 use Rattle.kinds.specs.Written.{request_row, trade_history_row, trade_row}
 use Rattle.kinds.specs.declared.inputs.OrderInput.{OrderInput}
-use Rattle.rules.proofs.Meaning.{means_charge, means_order_input}
+use Rattle.rules.specs.Meaning.{means_charge, means_order_input}
 use Rattle.rules.specs.Ranges.{charged}
 use Rattle.rules.specs.Rules.{as_kind, order_input}
 use Rattle.keys.specs.declared.Key.{Key}

@@ -11,10 +11,10 @@ use Rattle.laws.specs.Search.{every}
 use Rattle.laws.specs.Tests.{and_left, and_right}
 use Rattle.record.specs.Grid.{Sized, decode, decode_encode, encode, length_encode}
 use Rattle.record.specs.declared.row.Row.{Row}
-use Rattle.rules.proofs.Meaning.{means_account, means_band, means_broker, means_cash, means_charge, means_customer}
-use Rattle.rules.proofs.Meaning.{means_customer_rate, means_free, means_lot, means_lot_history, means_permission}
-use Rattle.rules.proofs.Meaning.{means_request, means_security, means_settlement, means_summary, means_tax_rate}
-use Rattle.rules.proofs.Meaning.{means_trade, means_trade_history}
+use Rattle.rules.specs.Meaning.{means_account, means_band, means_broker, means_cash, means_charge, means_customer}
+use Rattle.rules.specs.Meaning.{means_customer_rate, means_free, means_lot, means_lot_history, means_permission}
+use Rattle.rules.specs.Meaning.{means_request, means_security, means_settlement, means_summary, means_tax_rate}
+use Rattle.rules.specs.Meaning.{means_trade, means_trade_history}
 use Rattle.rules.specs.Ranges.{Range, ◌⋯◌, any32, any64, values}
 use Rattle.rules.specs.Rules.{account, account_limits, band, band_limits, broker, broker_limits, cash, cash_limits, charge}
 use Rattle.rules.specs.Rules.{charge_limits, customer, customer_limits, customer_rate, customer_rate_limits, fits, free}

@@ -4,8 +4,9 @@ use Rattle.std.specs.Prelude.{◌≡◌, refl, true, false, List, [], ◌∷◌,
 use Rattle.std.proofs.Common.{sym, ◌∙◌, inl, ⊎_elim, arith}
 use Rattle.record.specs.Codes.{completed, kind_free, kind_security, kind_trade, kind_trade_history, pending, submitted}
 use Rattle.record.specs.declared.row.Row.{Row}
-use Rattle.rules.proofs.Meaning.{FeedInput, Fits, Security, Trade, TradeHistory, means_feed_input, means_fits}
-use Rattle.rules.proofs.Meaning.{means_free, means_security, means_trade, means_trade_history}
+use Rattle.rules.specs.Meaning.{FeedInput, Security, Trade, TradeHistory, means_feed_input}
+use Rattle.rules.proofs.Fits.{Fits, means_fits}
+use Rattle.rules.specs.Meaning.{means_free, means_security, means_trade, means_trade_history}
 use Rattle.rules.specs.Ranges.{◌⋯◌, id, kind, m1, n1, price, status, time, trade_number, trade_status, values, volume}
 use Rattle.rules.specs.Ranges.{when}
 use Rattle.rules.specs.Rules.{as_kind, feed_input, rules, security_limits, trade_limits}

@@ -4,7 +4,8 @@ use Rattle.std.proofs.Common.{◌∙◌, inl, arith}
 use Rattle.record.specs.Codes.{kind_account, kind_request, kind_trade, kind_trade_history, pending, submitted, tms}
 use Rattle.record.specs.Symbol.{symbol_number}
 use Rattle.record.specs.declared.row.Row.{Row}
-use Rattle.rules.proofs.Meaning.{Fits, OrderInput, means_account, means_fits, means_order_input}
+use Rattle.rules.specs.Meaning.{OrderInput, means_account, means_order_input}
+use Rattle.rules.proofs.Fits.{Fits, means_fits}
 use Rattle.rules.specs.Ranges.{◌⋯◌, any64, charged, fee, flags, form, id, m1, m2, n1, n2, n3, n4, number, party}
 use Rattle.rules.specs.Ranges.{price, price_most, shares, status, symbol, time, trade_flags, trade_number, trade_status}
 use Rattle.rules.specs.Ranges.{trade_type, when}

@@ -9,7 +9,8 @@ use Rattle.laws.specs.Search.{count}
 use Rattle.record.specs.Codes.{kind_charge, kind_free, kind_security, tms}
 use Rattle.keys.specs.declared.Key.{Key}
 use Rattle.record.specs.declared.row.Row.{Row}
-use Rattle.rules.proofs.Meaning.{means_charge, means_fits, means_order_input, means_security}
+use Rattle.rules.specs.Meaning.{means_charge, means_order_input, means_security}
+use Rattle.rules.proofs.Fits.{means_fits}
 use Rattle.rules.specs.Ranges.{charged, fee, price_most, trade_number}
 use Rattle.rules.specs.Rules.{as_kind, order_input}
 use Rattle.model.specs.Status.{is_done}

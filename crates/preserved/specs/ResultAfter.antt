@@ -20,7 +20,7 @@ use Rattle.model.specs.Rows.{found, has_key, is, nothing, same_row}
 use Rattle.model.specs.Result.{Sums, added, broker_write, trade_write}
 use Rattle.facts.specs.Rows.{row_itself, same_rows}
 use Rattle.facts.specs.Keys.{OfKind, key_kind, key_of_holds, kind_of_holds}
-use Rattle.facts.proofs.Result.{Read, broker_key, holding_key, trade_key, writes}
+use Rattle.facts.specs.Result.{Read, broker_key, holding_key, trade_key, writes}
 use Rattle.facts.specs.Posted.{adds}
 use Rattle.preserved.specs.Cases.{no, not_among}
 use Rattle.preserved.specs.ResultBase.{all, all_inside}

@@ -17,7 +17,7 @@ use Rattle.record.specs.Codes.{kind_free, submitted}
 use Rattle.keys.specs.Key.{key_of}
 use Rattle.keys.specs.KeyLaws.{key_itself}
 use Rattle.record.specs.declared.row.Row.{Row}
-use Rattle.rules.proofs.Meaning.{Fits}
+use Rattle.rules.proofs.Fits.{Fits}
 use Rattle.model.specs.Status.{is_done}
 use Rattle.model.specs.Lots.{Closing}
 use Rattle.model.specs.Names.{a_broker}
@@ -29,8 +29,9 @@ use Rattle.model.specs.SoundMeans.{means_s1, means_sound}
 use Rattle.model.specs.declared.Status.{Status}
 use Rattle.facts.specs.Rows.{clean_fit, row_itself, same_rows}
 use Rattle.facts.specs.Sound.{once}
-use Rattle.facts.proofs.Result.{Read, all_own, reads, writes_once}
-use Rattle.facts.proofs.Result
+use Rattle.facts.specs.Result.{Read}
+use Rattle.facts.proofs.Result.{all_own, reads, writes_once}
+use Rattle.facts.specs.Result
 use Rattle.facts.specs.Posted.{adds, posted_puts, writes}
 use Rattle.facts.specs.Checks.{decided_done, decided_refused, decided_status, passed}
 

@@ -21,7 +21,7 @@ use Rattle.model.specs.Rows.{is, nothing}
 use Rattle.model.specs.History.{history_row}
 use Rattle.facts.specs.Keys.{OfKind}
 use Rattle.facts.specs.Posted.{adds, frees}
-use Rattle.facts.proofs.Result.{Read}
+use Rattle.facts.specs.Result.{Read}
 use Rattle.preserved.specs.Cases.{by_cases, not_among}
 use Rattle.preserved.specs.ResultBase.{all}
 

@@ -7,8 +7,9 @@ use Rattle.std.specs.Int.{w64}
 use Rattle.laws.specs.Search.{count}
 use Rattle.record.specs.Codes.{kind_account, kind_broker, kind_free, kind_lot, kind_summary, kind_trade}
 use Rattle.record.specs.declared.row.Row.{Row}
-use Rattle.rules.proofs.Meaning.{Fits, Lot, Trade, means_account, means_broker, means_fits, means_lot, means_summary}
-use Rattle.rules.proofs.Meaning.{means_trade}
+use Rattle.rules.specs.Meaning.{Lot, Trade, means_account, means_broker, means_lot, means_summary}
+use Rattle.rules.proofs.Fits.{Fits, means_fits}
+use Rattle.rules.specs.Meaning.{means_trade}
 use Rattle.rules.specs.Rules.{as_kind, rules}
 use Rattle.model.specs.Lots.{Closing, size}
 use Rattle.model.specs.Money.{buys}
@@ -17,7 +18,7 @@ use Rattle.model.specs.Result.{summed_shares}
 use Rattle.model.specs.Rows.{is, nothing, same_row}
 use Rattle.model.specs.SoundMeans.{S1, means_sound}
 use Rattle.facts.specs.Signed.{sum_size}
-use Rattle.facts.proofs.Result.{Read}
+use Rattle.facts.specs.Result.{Read}
 use Rattle.preserved.specs.ResultAfter.{after, after_each}
 use Rattle.preserved.specs.ResultFitsRanges.{new_put}
 use Rattle.preserved.specs.ResultFitsRows.{Small, account_left_fits, broker_left_fits, cash_fits_holds, history_fits_holds}

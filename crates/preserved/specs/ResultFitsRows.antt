@@ -5,7 +5,7 @@ use Rattle.record.specs.Codes.{completed, kind_cash, kind_lot, kind_lot_history,
 use Rattle.record.specs.Codes.{kind_trade_history}
 use Rattle.record.specs.Symbol.{symbol_number}
 use Rattle.record.specs.declared.row.Row.{Row}
-use Rattle.rules.proofs.Meaning.{Account, Broker, Cash, Lot, LotHistory, Settlement, Summary, Trade, TradeHistory}
+use Rattle.rules.specs.Meaning.{Account, Broker, Cash, Lot, LotHistory, Settlement, Summary, Trade, TradeHistory}
 use Rattle.rules.specs.Ranges.{◌⋯◌, any32, any64, broker_trades, cash_flag, commission_total, due_time, fee, flags, id}
 use Rattle.rules.specs.Ranges.{kind, m1, m2, money_most, n1, n2, n3, number, party, price, price_most, shares_most}
 use Rattle.rules.specs.Ranges.{status, symbol, time, trade_number, trade_status, values, when}

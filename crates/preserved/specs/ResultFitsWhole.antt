@@ -4,7 +4,7 @@ use Rattle.std.proofs.Common.{mul-le-mul, leb-true}
 use Rattle.laws.specs.All.{All}
 use Rattle.laws.specs.Tests.{and_left, and_right}
 use Rattle.record.specs.declared.row.Row.{Row}
-use Rattle.rules.proofs.Meaning.{means_result_input}
+use Rattle.rules.specs.Meaning.{means_result_input}
 use Rattle.rules.specs.Ranges.{broker_trades, commission_total, fee, money_most, price_most, shares_most}
 use Rattle.rules.specs.Rules.{result_input}
 use Rattle.model.specs.Band.{commission_rate}

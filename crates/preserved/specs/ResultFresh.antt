@@ -25,7 +25,7 @@ use Rattle.model.specs.Result.{Sums}
 use Rattle.facts.specs.Found.{found_none, found_kind}
 use Rattle.facts.specs.Names.{by_id_holds, by_status_holds, of_id}
 use Rattle.facts.specs.Keys.{key_kind}
-use Rattle.facts.proofs.Result.{Read}
+use Rattle.facts.specs.Result.{Read}
 use Rattle.preserved.specs.Cases.{by_cases, not_so}
 use Rattle.preserved.specs.ResultEach.{lot_opened}
 

@@ -25,8 +25,9 @@ use Rattle.model.specs.Result.{Sums, added, closing_rows, final_rows, opening_ro
 use Rattle.facts.specs.Rows.{row_itself, same_rows}
 use Rattle.facts.specs.Found.{own_number}
 use Rattle.facts.specs.Keys.{key_of_holds, of_kind, own_key}
-use Rattle.facts.proofs.Result.{Read, all_own}
-use Rattle.facts.proofs.Result
+use Rattle.facts.specs.Result.{Read}
+use Rattle.facts.proofs.Result.{all_own}
+use Rattle.facts.specs.Result
 use Rattle.facts.specs.Posted.{adds}
 use Rattle.preserved.specs.Cases.{by_cases, not_so, one_bit}
 use Rattle.preserved.specs.ResultBase.{all, all_inside}

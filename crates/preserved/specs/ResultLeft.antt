@@ -11,7 +11,8 @@ use Rattle.model.specs.Result.{figures, posting, sums_of, view}
 use Rattle.model.specs.Rows.{found, nothing, same_row}
 use Rattle.model.specs.Sound.{sound}
 use Rattle.model.specs.SoundMeans.{S10, S2, S3, S4, S5, S6, S7, S9}
-use Rattle.facts.proofs.Result.{Read, reads}
+use Rattle.facts.specs.Result.{Read}
+use Rattle.facts.proofs.Result.{reads}
 use Rattle.facts.specs.Posted.{writes}
 use Rattle.preserved.specs.ResultBase.{Accepted, posting_of, room_is}
 use Rattle.preserved.specs.ResultKeys.{keys_left}

@@ -16,7 +16,8 @@ use Rattle.record.specs.Signed.{to_z_high}
 use Rattle.record.specs.Symbol.{same_symbol_holds, same_symbol, symbol_same}
 use Rattle.record.specs.declared.row.Row.{Row}
 use Rattle.record.specs.declared.symbol.Symbol.{Symbol}
-use Rattle.rules.proofs.Meaning.{means_fits, means_lot}
+use Rattle.rules.specs.Meaning.{means_lot}
+use Rattle.rules.proofs.Fits.{means_fits}
 use Rattle.rules.specs.Rules.{as_kind}
 use Rattle.model.specs.Edit.{bits64}
 use Rattle.model.specs.Lots.{Closing, size}
@@ -29,7 +30,7 @@ use Rattle.model.specs.Sound.{lot_of, other_sign, shares_of}
 use Rattle.model.specs.SoundMeans.{LotRight, S1, S8, SummaryRight, There}
 use Rattle.facts.specs.Signed.{sum_fits}
 use Rattle.facts.specs.Names.{by_holder}
-use Rattle.facts.proofs.Result.{Read}
+use Rattle.facts.specs.Result.{Read}
 use Rattle.preserved.specs.ResultLotsSides.{signed_size}
 use Rattle.preserved.specs.ResultLotsSigns.{count_untouched, lot_kind, lot_party, lot_symbol, not_mine, not_yours}
 use Rattle.preserved.specs.ResultLotsSigns.{one_after, signs_right, sum_untouched, third}

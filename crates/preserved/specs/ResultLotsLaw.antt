@@ -14,7 +14,7 @@ use Rattle.model.specs.Lots.{Closing}
 use Rattle.model.specs.Rows.{is, nothing, same_row}
 use Rattle.model.specs.Result.{Sums, added, broker_write, trade_write, gone, holding, reduced, summed_shares}
 use Rattle.facts.specs.Rows.{row_itself, same_rows}
-use Rattle.facts.proofs.Result.{Read}
+use Rattle.facts.specs.Result.{Read}
 use Rattle.preserved.specs.ResultAfter.{after}
 use Rattle.preserved.specs.ResultBase.{all, all_inside}
 use Rattle.preserved.specs.ResultEach.{cash_of, closing_of, history_of, lot_after, lot_opened, opening_of, settlement_of}

@@ -21,7 +21,7 @@ use Rattle.model.specs.Rows.{is, nothing, same_row}
 use Rattle.model.specs.Sound.{lot_of, other_sign, shares_of, short}
 use Rattle.model.specs.SoundMeans.{means_sound}
 use Rattle.model.specs.Result.{Sums, added, reduced}
-use Rattle.facts.proofs.Result.{Read}
+use Rattle.facts.specs.Result.{Read}
 use Rattle.preserved.specs.Cases.{by_cases}
 use Rattle.preserved.specs.ResultAfter.{after}
 use Rattle.preserved.specs.ResultLotsLaw.{lots_law}

@@ -21,7 +21,7 @@ use Rattle.model.specs.Names.{a_summary}
 use Rattle.model.specs.Result.{left_of, signed, Sums, added, reduced}
 use Rattle.model.specs.Rows.{found, is, nothing, same_row}
 use Rattle.model.specs.Sound.{lot_of, shares_of, short}
-use Rattle.facts.proofs.Result.{Read}
+use Rattle.facts.specs.Result.{Read}
 use Rattle.preserved.specs.ResultAfter.{after}
 use Rattle.preserved.specs.ResultLotsLaw.{lots_law}
 use Rattle.preserved.specs.ResultLotsSides.{add_sides, bits_tell, eq_sides, left_mine, left_short, left_size}

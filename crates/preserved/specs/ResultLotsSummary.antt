@@ -19,7 +19,7 @@ use Rattle.model.specs.Sound.{lot_of, shares_of, short}
 use Rattle.model.specs.Result.{Sums, added}
 use Rattle.facts.specs.Found.{found_has, found_live}
 use Rattle.facts.specs.Names.{by_holder, of_party}
-use Rattle.facts.proofs.Result.{Read}
+use Rattle.facts.specs.Result.{Read}
 use Rattle.preserved.specs.Cases.{none_passes}
 use Rattle.preserved.specs.ResultFresh.{no_summary, none_found}
 use Rattle.preserved.specs.ResultLotsSides.{eq_sides, other_side, part, sum_sides, zero_sides}

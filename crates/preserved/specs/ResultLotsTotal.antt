@@ -17,7 +17,7 @@ use Rattle.model.specs.Rows.{is, nothing}
 use Rattle.model.specs.Result.{Sums, account_changes, added, broker_write, closed_lots, closing_rows, final_rows, gone}
 use Rattle.model.specs.Result.{holding, lot_changes, opening_rows, reduced, summary_changes, summary_gone, summary_rows}
 use Rattle.model.specs.Result.{summed_shares, trade_write}
-use Rattle.facts.proofs.Result.{Read, writes}
+use Rattle.facts.specs.Result.{Read, writes}
 use Rattle.facts.specs.Posted.{adds, frees}
 use Rattle.preserved.specs.ResultBase.{all}
 use Rattle.preserved.specs.ResultEach.{cash_of, closing_of, history_of, lot_after, lot_opened, opening_of, settlement_of}

@@ -12,7 +12,7 @@ use Rattle.model.specs.Lots.{Closing}
 use Rattle.model.specs.Names.{a_trade}
 use Rattle.model.specs.Rows.{found, is, nothing, same_row}
 use Rattle.model.specs.Result.{Sums, added, broker_write, trade_write, holding}
-use Rattle.facts.proofs.Result.{Read}
+use Rattle.facts.specs.Result.{Read}
 use Rattle.preserved.specs.Cases.{no}
 use Rattle.preserved.specs.ResultAfter.{after, after_each}
 use Rattle.preserved.specs.ResultEach.{Each, cash_of, closing_of, each_write, history_of, lot_opened, opening_of}

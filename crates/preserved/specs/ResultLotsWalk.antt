@@ -15,7 +15,8 @@ use Rattle.laws.specs.Tests.{◌⇔◌, and_left, and_right}
 use Rattle.record.specs.Codes.{kind_free, kind_lot, kind_trade, submitted}
 use Rattle.record.specs.declared.row.Row.{Row}
 use Rattle.record.specs.declared.symbol.Symbol.{Symbol}
-use Rattle.rules.proofs.Meaning.{Lot, Trade, means_fits, means_lot, means_trade}
+use Rattle.rules.specs.Meaning.{Lot, Trade, means_lot, means_trade}
+use Rattle.rules.proofs.Fits.{means_fits}
 use Rattle.rules.specs.Ranges.{shares_most}
 use Rattle.rules.specs.Rules.{as_kind}
 use Rattle.model.specs.Flags.{lifo}

@@ -21,7 +21,7 @@ use Rattle.model.specs.SoundMeans.{S3, S4, S5, There}
 use Rattle.model.specs.Result.{Sums, added, broker_write, trade_write, holding}
 use Rattle.facts.specs.Found.{own_number}
 use Rattle.facts.specs.Sound.{names_account, names_broker}
-use Rattle.facts.proofs.Result.{Read}
+use Rattle.facts.specs.Result.{Read}
 use Rattle.preserved.specs.Looks.{rates_alike}
 use Rattle.preserved.specs.ResultAfter.{after, after_each, key_stays, quiet_count, still, still_found, still_sum}
 use Rattle.preserved.specs.ResultAfter.{still_was}

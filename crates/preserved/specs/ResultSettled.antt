@@ -21,7 +21,7 @@ use Rattle.model.specs.Result.{Sums, added}
 use Rattle.facts.specs.Found.{own_number}
 use Rattle.facts.specs.Names.{id_kinds}
 use Rattle.facts.specs.Keys.{key_of_holds, kind_of_holds}
-use Rattle.facts.proofs.Result.{Read}
+use Rattle.facts.specs.Result.{Read}
 use Rattle.preserved.specs.Cases.{no}
 use Rattle.preserved.specs.ResultAfter.{after_each, after_fewer, quiet_count, quiet_found}
 use Rattle.preserved.specs.ResultBase.{all}

@@ -26,7 +26,7 @@ use Rattle.model.specs.Result.{Sums, added, broker_write, trade_write, holding}
 use Rattle.facts.specs.Found.{found_has, found_member}
 use Rattle.facts.specs.Names.{by_party_holds, of_id}
 use Rattle.facts.specs.Keys.{own_key, key_of_holds}
-use Rattle.facts.proofs.Result.{Read}
+use Rattle.facts.specs.Result.{Read}
 use Rattle.preserved.specs.Looks.{agrees_of, agrees_by}
 use Rattle.preserved.specs.Cases.{no, not_so}
 use Rattle.preserved.specs.ResultAfter.{Still, after_each, after_fewer, key_stays, quiet_count, quiet_found, still}

@@ -22,7 +22,7 @@ use Rattle.model.specs.Result.{opening_rows, summary_changes, summary_rows}
 use Rattle.facts.specs.Found.{own_number}
 use Rattle.facts.specs.Names.{by_id_holds, id_kinds}
 use Rattle.facts.specs.Keys.{key_of_holds, kind_of_holds}
-use Rattle.facts.proofs.Result.{Read}
+use Rattle.facts.specs.Result.{Read}
 use Rattle.preserved.specs.Cases.{by_cases, no, not_among, not_so}
 use Rattle.preserved.specs.ResultAfter.{added_comes, after, after_each, quiet_found, turned_comes}
 use Rattle.preserved.specs.ResultBase.{all}

@@ -16,9 +16,9 @@ use Rattle.kinds.specs.declared.rows.Broker.{Broker}
 use Rattle.kinds.specs.declared.rows.Summary.{Summary}
 use Rattle.kinds.specs.declared.rows.Trade.{Trade}
 use Rattle.units.specs.declared.PerHundredThousand.{PerHundredThousand}
-use Rattle.rules.proofs.Meaning.{means_result_input}
+use Rattle.rules.specs.Meaning.{means_result_input}
 use Rattle.rules.specs.Rules.{result_input}
-use Rattle.rules.proofs.Typed.{written}
+use Rattle.rules.specs.Typed.{written}
 use Rattle.keys.specs.declared.Key.{Key}
 use Rattle.model.specs.declared.BandAnswer.{BandAnswer}
 use Rattle.model.specs.Band.{band_answer}

@@ -12,7 +12,8 @@ use Rattle.record.specs.Codes.{kind_broker, kind_free, kind_trade}
 use Rattle.keys.specs.Key.{key_of, same_key}
 use Rattle.record.specs.Symbol.{same_symbol}
 use Rattle.record.specs.declared.row.Row.{Row}
-use Rattle.rules.proofs.Meaning.{means_fits, means_trade}
+use Rattle.rules.specs.Meaning.{means_trade}
+use Rattle.rules.proofs.Fits.{means_fits}
 use Rattle.rules.specs.Rules.{as_kind, result_input}
 use Rattle.model.specs.declared.Status.TheVariants.{BadInput, ResultNoTrade}
 use Rattle.model.specs.Names.{a_broker, a_trade}

@@ -21,7 +21,8 @@ use Rattle.record.specs.Codes.{kind_trade}
 use Rattle.record.specs.Grid.{decode}
 use Rattle.keys.specs.declared.Key.{Key}
 use Rattle.record.specs.declared.row.Row.{Row}
-use Rattle.rules.proofs.Meaning.{means_fits, means_trade}
+use Rattle.rules.specs.Meaning.{means_trade}
+use Rattle.rules.proofs.Fits.{means_fits}
 use Rattle.rules.specs.Ranges.{limited}
 use Rattle.rules.specs.Rules.{as_kind, obeys, result_input, result_input_shape}
 use Rattle.model.specs.declared.Status.TheVariants.{BadInput, BadLength, NoRoom, OverLimit}

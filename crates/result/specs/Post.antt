@@ -18,9 +18,10 @@ use Rattle.kinds.specs.Kinds.{account_of, broker_of, lot_of, summary_of, trade_o
 use Rattle.kinds.specs.Written.{account_row, broker_row, lot_row, summary_row, trade_row}
 use Rattle.keys.specs.KeyLaws.{same_keys}
 use Rattle.keys.specs.Key.{key_of}
-use Rattle.rules.proofs.Meaning.{means_account, means_broker, means_fits, means_lot, means_summary, means_trade}
+use Rattle.rules.specs.Meaning.{means_account, means_broker, means_lot, means_summary, means_trade}
+use Rattle.rules.proofs.Fits.{means_fits}
 use Rattle.rules.specs.Rules.{as_kind, fits}
-use Rattle.rules.proofs.Typed.{account_written, broker_written, lot_written, summary_written, trade_written}
+use Rattle.rules.specs.Typed.{account_written, broker_written, lot_written, summary_written, trade_written}
 use Rattle.keys.specs.declared.Key.{Key}
 use Rattle.model.specs.Flags.{cash}
 use Rattle.model.specs.Lots.{Closing, closings}
@@ -33,7 +34,8 @@ use Rattle.model.specs.SoundMeans.{means_sound}
 use Rattle.facts.specs.Found.{found_has, found_live}
 use Rattle.facts.specs.Keys.{of_live}
 use Rattle.facts.specs.Posted.{frees}
-use Rattle.facts.proofs.Result.{Read, reads, writes}
+use Rattle.facts.specs.Result.{Read, writes}
+use Rattle.facts.proofs.Result.{reads}
 use Rattle.facts.specs.Sound.{named_there, names_account, names_broker}
 use Rattle.places.specs.Rows.{row_at}
 use Rattle.reading.specs.declared.terms.Terms.{Terms}

@@ -20,7 +20,8 @@ use Rattle.model.specs.Sound.{sound}
 use Rattle.facts.specs.Keys.{not_nothing, own_key}
 use Rattle.facts.specs.Sound.{once}
 use Rattle.facts.specs.Posted.{frees}
-use Rattle.facts.proofs.Result.{Read, Turned, all_own, reads, writes, writes_once}
+use Rattle.facts.specs.Result.{Read, Turned, writes}
+use Rattle.facts.proofs.Result.{all_own, reads, writes_once}
 use Rattle.facts.specs.Rows.{row_itself, same_rows}
 use Rattle.result.specs.Place.{placed, spot}
 

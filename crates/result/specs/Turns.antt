@@ -17,7 +17,8 @@ use Rattle.model.specs.Result.{Sums, broker_write, holding, left_of}
 use Rattle.model.specs.Result.{summed_shares, trade_write}
 use Rattle.model.specs.Rows.{has_key, is, nothing, rows}
 use Rattle.facts.specs.Keys.{own_key}
-use Rattle.facts.proofs.Result.{Read, all_own, all_writes, writes, writes_once}
+use Rattle.facts.specs.Result.{Read, writes}
+use Rattle.facts.proofs.Result.{all_own, all_writes, writes_once}
 use Rattle.facts.specs.Sound.{once}
 use Rattle.chains.specs.Group.{account_stays, broker_stays, group_of, lot_stays, summary_stays, trade_stays}
 use Rattle.directory.specs.Directory.{Directory}

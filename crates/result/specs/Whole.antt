@@ -15,7 +15,7 @@ use Rattle.kinds.specs.Inputs.{result_input_of}
 use Rattle.kinds.specs.Kinds.{broker_of, trade_of}
 use Rattle.kinds.specs.Written.{trade_row}
 use Rattle.kinds.specs.declared.inputs.ResultInput.{ResultInput}
-use Rattle.rules.proofs.Meaning.{means_lot, means_result_input}
+use Rattle.rules.specs.Meaning.{means_lot, means_result_input}
 use Rattle.rules.specs.Ranges.{broker_trades, commission_total, money_most, price_most, shares_most}
 use Rattle.rules.specs.Rules.{as_kind, fits, result_input}
 use Rattle.model.specs.Lots.{closings}

@@ -16,7 +16,7 @@ use Rattle.kinds.specs.Kinds.{account_of, broker_of, trade_of}
 use Rattle.kinds.specs.declared.rows.Broker.{Broker}
 use Rattle.units.specs.declared.Cents.{Cents}
 use Rattle.units.specs.declared.Shares.{Shares}
-use Rattle.rules.proofs.Meaning.{means_broker}
+use Rattle.rules.specs.Meaning.{means_broker}
 use Rattle.rules.specs.Ranges.{broker_trades, commission_total, fee, money_most}
 use Rattle.rules.specs.Rules.{as_kind}
 use Rattle.rules.specs.Signed.{near}

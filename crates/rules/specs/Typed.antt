@@ -13,8 +13,8 @@ use Rattle.kinds.specs.Typed.{back64, low_back, low_nat}
 use Rattle.units.specs.Units.{low}
 use Rattle.kinds.specs.Written.{account_row, broker_row, cash_row, lot_history_row, lot_row, request_row, security_row}
 use Rattle.kinds.specs.Written.{settlement_row, summary_row, trade_history_row, trade_row}
-use Rattle.rules.proofs.Meaning.{Account, Broker, Cash, Lot, LotHistory, Request, Security, Settlement, Summary}
-use Rattle.rules.proofs.Meaning.{Trade, TradeHistory}
+use Rattle.rules.specs.Meaning.{Account, Broker, Cash, Lot, LotHistory, Request, Security, Settlement, Summary}
+use Rattle.rules.specs.Meaning.{Trade, TradeHistory}
 
 pub none : (x : ℕ) → x ≤ 0 → 0 ≡ x
 none x h = omega arith
