@@ -80,59 +80,17 @@ pub fn put(bytes: &mut [u8; Grid::SIZE], at: usize, width: usize, x: u64)
     ensures { bytes.new ≡ stored bytes.old at width x }
 {
     let mut y = x;
-    let mut i = 0;
-    while i < width {
+    for i in 0..width {
         bytes[at + i] = (y % 256) as u8;
-        y = y / 256;
-        i += 1;
+        y /= 256;
     }
-}
-
-fn put8(bytes: &mut [u8; Grid::SIZE], at: usize, x: u8)
-    requires { at + 1 ≤ 64 }
-    ensures { bytes.new ≡ stored bytes.old at 1 x }
-{
-    put(bytes, at, 1, x as u64);
-}
-
-fn put32(bytes: &mut [u8; Grid::SIZE], at: usize, x: u32)
-    requires { at + 4 ≤ 64 }
-    ensures { bytes.new ≡ stored bytes.old at 4 x }
-{
-    put(bytes, at, 4, x as u64);
-}
-
-fn put64(bytes: &mut [u8; Grid::SIZE], at: usize, x: u64)
-    requires { at + 8 ≤ 64 }
-    ensures { bytes.new ≡ stored bytes.old at 8 x }
-{
-    put(bytes, at, 8, x);
 }
 
 // The bytes of a symbol, in their order.
 fn put_symbol(bytes: &mut [u8; Grid::SIZE], x: Symbol)
     ensures { bytes.new ≡ sets bytes.old 16 (symbol_bytes x) }
 {
-    let s = x.spelled();
-    bytes[Grid::SYMBOL] = s[0];
-    bytes[Grid::SYMBOL + 1] = s[1];
-    bytes[Grid::SYMBOL + 2] = s[2];
-    bytes[Grid::SYMBOL + 3] = s[3];
-    bytes[Grid::SYMBOL + 4] = s[4];
-    bytes[Grid::SYMBOL + 5] = s[5];
-    bytes[Grid::SYMBOL + 6] = s[6];
-    bytes[Grid::SYMBOL + 7] = s[7];
-}
-
-pub fn copy(to: &mut [u8], from: &[u8])
-    requires { length to.old ≡ length from.now }
-    ensures { to.new ≡ from.now }
-{
-    let mut i = 0;
-    while i < to.len() {
-        to[i] = from[i];
-        i += 1;
-    }
+    bytes[Grid::SYMBOL..Grid::SYMBOL + Symbol::LONG].copy_from_slice(&x.spelled());
 }
 
 impl Row {
@@ -165,23 +123,22 @@ impl Row {
     pub fn bytes(self) -> [u8; Grid::SIZE]
         ensures { result ≡ encode self }
     {
-        let symbol = self.symbol;
         let mut a = [0u8; Grid::SIZE];
-        put8(&mut a, Grid::KIND, self.kind);
-        put8(&mut a, Grid::FORM, self.form);
-        put8(&mut a, Grid::STATUS, self.status);
-        put8(&mut a, Grid::FLAGS, self.flags);
-        put32(&mut a, Grid::PARTY, self.party);
-        put64(&mut a, Grid::ID, self.id);
-        put_symbol(&mut a, symbol);
-        put32(&mut a, Grid::N1, self.n1);
-        put32(&mut a, Grid::N2, self.n2);
-        put32(&mut a, Grid::N3, self.n3);
-        put32(&mut a, Grid::N4, self.n4);
-        put64(&mut a, Grid::M1, self.m1);
-        put64(&mut a, Grid::M2, self.m2);
-        put32(&mut a, Grid::TIME, self.time);
-        put32(&mut a, Grid::N5, self.n5);
+        put(&mut a, Grid::KIND, 1, u64::from(self.kind));
+        put(&mut a, Grid::FORM, 1, u64::from(self.form));
+        put(&mut a, Grid::STATUS, 1, u64::from(self.status));
+        put(&mut a, Grid::FLAGS, 1, u64::from(self.flags));
+        put(&mut a, Grid::PARTY, 4, u64::from(self.party));
+        put(&mut a, Grid::ID, 8, self.id);
+        put_symbol(&mut a, self.symbol);
+        put(&mut a, Grid::N1, 4, u64::from(self.n1));
+        put(&mut a, Grid::N2, 4, u64::from(self.n2));
+        put(&mut a, Grid::N3, 4, u64::from(self.n3));
+        put(&mut a, Grid::N4, 4, u64::from(self.n4));
+        put(&mut a, Grid::M1, 8, self.m1);
+        put(&mut a, Grid::M2, 8, self.m2);
+        put(&mut a, Grid::TIME, 4, u64::from(self.time));
+        put(&mut a, Grid::N5, 4, u64::from(self.n5));
         a
     }
 
@@ -190,7 +147,6 @@ impl Row {
         requires { length part.old ≡ 64 }
         ensures { part.new ≡ encode self }
     {
-        let b = self.bytes();
-        copy(part, &b);
+        part.copy_from_slice(&self.bytes());
     }
 }

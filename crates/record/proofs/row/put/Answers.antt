@@ -9,7 +9,7 @@ loop-i-preserved c =
     let i = c.loop-i.i in
     let left = c.args.width - (i + 1) in
     let one = put_step c.loop-i.bytes (at + i) (at + (i + 1)) (c.args.width - i) left c.loop-i.y in
-    (omega arith, one (omega arith) (omega arith) ∙ c.loop-i.invariant.1)
+    one (omega arith) (omega arith) ∙ c.loop-i.invariant
 
 pub returns : goal.returns
 unfolding stored
@@ -17,4 +17,4 @@ returns c =
     let done =
     put_done c.loop-i.bytes (c.args.at + c.loop-i.i) (c.args.width - c.loop-i.i) c.loop-i.y (omega arith)
     in
-    sym done ∙ c.loop-i.invariant.1
+    sym done ∙ c.loop-i.invariant
