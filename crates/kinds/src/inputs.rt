@@ -53,7 +53,7 @@ impl OrderInput {
             flags: part[Grid::FLAGS],
             account: AccountNo(bytes::u32_at(part, Grid::PARTY)),
             symbol: Symbol::at(part, Grid::SYMBOL),
-            shares: units::shares_u32_at(part, Grid::N1),
+            shares: Shares::at_u32(part, Grid::N1),
             bid: Price(bytes::u32_at(part, Grid::N2)),
             executor: ExecutorNo(bytes::u32_at(part, Grid::N3)),
             time: Time(bytes::u32_at(part, Grid::TIME)),
@@ -125,7 +125,7 @@ impl FeedInput {
         FeedInput {
             symbol: Symbol::at(part, Grid::SYMBOL),
             price: Price(bytes::u32_at(part, Grid::N1)),
-            shares: units::shares_u32_at(part, Grid::N2),
+            shares: Shares::at_u32(part, Grid::N2),
             time: Time(bytes::u32_at(part, Grid::TIME)),
         }
     }

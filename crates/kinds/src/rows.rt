@@ -78,7 +78,7 @@ impl Broker {
         Broker {
             no: BrokerNo(bytes::u32_at(part, Broker::NO)),
             trades: bytes::u32_at(part, Broker::TRADES),
-            commission: units::cents_at(part, Broker::COMMISSION),
+            commission: Cents::at(part, Broker::COMMISSION),
         }
     }
 
@@ -255,7 +255,7 @@ impl Account {
             tax_status: part[Account::TAX_STATUS],
             broker: BrokerNo(bytes::u32_at(part, Account::BROKER)),
             customer: CustomerNo(bytes::u32_at(part, Account::CUSTOMER)),
-            balance: units::cents_at(part, Account::BALANCE),
+            balance: Cents::at(part, Account::BALANCE),
         }
     }
 
@@ -325,7 +325,7 @@ impl Security {
             symbol: Symbol::at(part, Security::SYMBOL),
             exchange: part[Security::EXCHANGE],
             last_price: Price(bytes::u32_at(part, Security::LAST_PRICE)),
-            volume: units::shares_at(part, Security::VOLUME),
+            volume: Shares::at(part, Security::VOLUME),
             time: Time(bytes::u32_at(part, Security::TIME)),
         }
     }
@@ -404,8 +404,8 @@ impl Band {
             trade_type: part[Band::TRADE_TYPE],
             tier: part[Band::TIER],
             exchange: part[Band::EXCHANGE],
-            from: units::shares_u32_at(part, Band::FROM),
-            to: units::shares_u32_at(part, Band::TO),
+            from: Shares::at_u32(part, Band::FROM),
+            to: Shares::at_u32(part, Band::TO),
             rate: PerTenThousand(bytes::u32_at(part, Band::RATE)),
         }
     }
@@ -451,7 +451,7 @@ impl Charge {
         Charge {
             trade_type: part[Charge::TRADE_TYPE],
             tier: part[Charge::TIER],
-            amount: units::cents_u32_at(part, Charge::AMOUNT),
+            amount: Cents::at_u32(part, Charge::AMOUNT),
         }
     }
 }
@@ -540,12 +540,12 @@ impl Trade {
             flags: part[Trade::FLAGS],
             account: AccountNo(bytes::u32_at(part, Trade::ACCOUNT)),
             symbol: Symbol::at(part, Trade::SYMBOL),
-            shares: units::shares_u32_at(part, Trade::SHARES),
+            shares: Shares::at_u32(part, Trade::SHARES),
             bid: Price(bytes::u32_at(part, Trade::BID)),
             price: Price(bytes::u32_at(part, Trade::PRICE)),
-            charge: units::cents_u32_at(part, Trade::CHARGE),
-            commission: units::cents_at(part, Trade::COMMISSION),
-            tax: units::cents_at(part, Trade::TAX),
+            charge: Cents::at_u32(part, Trade::CHARGE),
+            commission: Cents::at(part, Trade::COMMISSION),
+            tax: Cents::at(part, Trade::TAX),
             time: Time(bytes::u32_at(part, Trade::TIME)),
         }
     }
@@ -630,7 +630,7 @@ impl Request {
             trade_type: part[Request::TRADE_TYPE],
             broker: BrokerNo(bytes::u32_at(part, Request::BROKER)),
             symbol: Symbol::at(part, Request::SYMBOL),
-            shares: units::shares_u32_at(part, Request::SHARES),
+            shares: Shares::at_u32(part, Request::SHARES),
             bid: Price(bytes::u32_at(part, Request::BID)),
         }
     }
@@ -762,7 +762,7 @@ impl Lot {
             account: AccountNo(bytes::u32_at(part, Lot::ACCOUNT)),
             symbol: Symbol::at(part, Lot::SYMBOL),
             price: Price(bytes::u32_at(part, Lot::PRICE)),
-            shares: units::shares_at(part, Lot::SHARES),
+            shares: Shares::at(part, Lot::SHARES),
             time: Time(bytes::u32_at(part, Lot::TIME)),
         }
     }
@@ -827,7 +827,7 @@ impl Summary {
         Summary {
             account: AccountNo(bytes::u32_at(part, Summary::ACCOUNT)),
             symbol: Symbol::at(part, Summary::SYMBOL),
-            shares: units::shares_at(part, Summary::SHARES),
+            shares: Shares::at(part, Summary::SHARES),
         }
     }
 
@@ -892,8 +892,8 @@ impl LotHistory {
         LotHistory {
             lot: TradeNo(bytes::u64_at(part, LotHistory::LOT)),
             by: TradeNo(bytes::u64_at(part, LotHistory::BY)),
-            before: units::shares_i32_at(part, LotHistory::BEFORE),
-            after: units::shares_i32_at(part, LotHistory::AFTER),
+            before: Shares::at_i32(part, LotHistory::BEFORE),
+            after: Shares::at_i32(part, LotHistory::AFTER),
         }
     }
 
@@ -955,7 +955,7 @@ impl Settlement {
         Settlement {
             no: TradeNo(bytes::u64_at(part, Settlement::NO)),
             cash: part[Settlement::CASH],
-            amount: units::cents_at(part, Settlement::AMOUNT),
+            amount: Cents::at(part, Settlement::AMOUNT),
             due: Time(bytes::u32_at(part, Settlement::DUE)),
         }
     }
@@ -1012,7 +1012,7 @@ impl Cash {
     {
         Cash {
             no: TradeNo(bytes::u64_at(part, Cash::NO)),
-            amount: units::cents_at(part, Cash::AMOUNT),
+            amount: Cents::at(part, Cash::AMOUNT),
             time: Time(bytes::u32_at(part, Cash::TIME)),
         }
     }

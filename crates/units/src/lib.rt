@@ -2,277 +2,201 @@
 // number as an account.
 #![tactic(auto)]
 
-ghost use Rattle.std.specs.Prelude.{◌≡◌, ◌+◌, ◌%◌, ◌^◌, ◌<◌, ◌≤◌, length, ◌+ℤ◌, ◌-ℤ◌, nat_abs, neg_ℤ, pos};
+ghost use Rattle.std.specs.Prelude.{◌≡◌, ◌+◌, ◌^◌, ◌<◌, ◌≤◌, length, ℕ, ℤ, refl, ◌+ℤ◌, ◌-ℤ◌, nat_abs, neg_ℤ, pos};
 ghost use Rattle.std.specs.Int.{w32, w64};
 ghost use Rattle.std.proofs.Common.{of_z, to_z};
 ghost use Rattle.record.specs.Bytes.{le};
 ghost use Rattle.record.specs.Signed.{up};
 ghost use Rattle.units.specs.Units.{cents, low, shares, signed_most};
+ghost use Rattle.units.specs.Sizes.{in_range_holds};
 
 use record::bytes;
 
-// A count of shares, below zero for what is owed.
-#[derive(Clone, Copy)]
-pub struct Shares(pub i64);
+// A signed amount of one kind. Each kind says how far from zero its amounts may lie, so that no sum leaves 64 bits.
+pub trait Amount: Sized {
+    ghost made: { ℤ → Self };
 
-impl Shares {
-    pub fn of(x: u64) -> Shares
-        requires { x ≤ signed_most }
-        ensures value { result ≡ shares (pos x) }
-        ensures result_value { (up result.0 ≡ x) × (nat_abs result.0 ≡ x) }
+    ghost number: { Self → ℤ };
+
+    ghost Within: { ℕ → Type 0 };
+
+    fn signed(x: i64) -> Self
+        ensures { result ≡ made x };
+
+    fn raw(self) -> i64
+        ensures { result ≡ number self };
+
+    ghost keeps: { (z : ℤ) → number (made z) ≡ z };
+
+    ghost in_bits: { (n : ℕ) → Within n → n ≤ signed_most };
+
+    final fn of(x: u64) -> Self
+        requires { Within x }
+        ensures value { result ≡ made (pos x) }
+        ensures result_value { (up (number result) ≡ x) × (nat_abs (number result) ≡ x) }
     {
-        Shares(signed(x))
+        Self::signed(x as i64)
     }
 
-    // The count as a plain number; what is below zero counts as 0.
-    pub fn plain(self) -> u64
-        ensures value { result ≡ up self.0 }
-        ensures upper_bound { result ≤ signed_most }
+    // The amount in eight bytes, signed.
+    final fn at(part: &[u8], at: usize) -> Self
+        requires { at + 8 ≤ length part.now }
+        ensures { result ≡ made (to_z w64 (le 8 part.now at)) }
     {
-        above(self.0)
+        Self::signed(bytes::u64_at(part, at).cast_signed())
     }
 
-    // How many there are, held or owed.
-    pub fn size(self) -> u64
-        ensures { result ≡ nat_abs self.0 }
+    // In four bytes, never below zero.
+    final fn at_u32(part: &[u8], at: usize) -> Self
+        requires { at + 4 ≤ length part.now }
+        ensures { result ≡ made (pos (le 4 part.now at)) }
     {
-        distance(self.0)
+        Self::signed(i64::from(bytes::u32_at(part, at)))
     }
 
-    pub fn plus(self, other: Shares) -> Shares
-        requires { nat_abs self.0 + nat_abs other.0 ≤ signed_most }
-        ensures value { result ≡ shares (self.0 +ℤ other.0) }
-        ensures result_bound { nat_abs result.0 ≤ nat_abs self.0 + nat_abs other.0 }
+    // In four bytes, signed.
+    final fn at_i32(part: &[u8], at: usize) -> Self
+        requires { at + 4 ≤ length part.now }
+        ensures { result ≡ made (to_z w32 (le 4 part.now at)) }
     {
-        Shares(sum(self.0, other.0))
-    }
-
-    pub fn negated(self) -> Shares
-        requires { nat_abs self.0 ≤ signed_most }
-        ensures value { result ≡ shares (neg_ℤ self.0) }
-        ensures result_value { nat_abs result.0 ≡ nat_abs self.0 }
-    {
-        Shares(negative(self.0))
-    }
-
-    pub fn less(self, other: Shares) -> Shares
-        requires { nat_abs self.0 + nat_abs other.0 ≤ signed_most }
-        ensures value { result ≡ shares (self.0 -ℤ other.0) }
-        ensures result_bound { nat_abs result.0 ≤ nat_abs self.0 + nat_abs other.0 }
-    {
-        self.plus(other.negated())
-    }
-
-    // The 64 bits of a signed count.
-    pub fn bits(self) -> u64
-        ensures { result ≡ of_z w64 self.0 }
-    {
-        bytes::bits64(self.0)
-    }
-
-    // The lower 32 of them: a count that is never below zero, or a signed one of 32 bits.
-    pub fn low(self) -> u32
-        ensures { result ≡ low self.0 }
-    {
-        lower(self.bits())
-    }
-}
-
-// Money. What is worked out with it stays below 2^62, so that a debugger shows it as it is (2026-06).
-#[derive(Clone, Copy)]
-pub struct Cents(pub i64);
-
-impl Cents {
-    pub fn of(x: u64) -> Cents
-        requires { x < 2 ^ 62 }
-        ensures value { result ≡ cents (pos x) }
-        ensures result_value { (up result.0 ≡ x) × (nat_abs result.0 ≡ x) }
-    {
-        Cents(signed(x))
+        Self::signed(i64::from(bytes::u32_at(part, at).cast_signed()))
     }
 
     // The amount as a plain number; what is below zero counts as 0.
-    pub fn plain(self) -> u64
-        ensures value { result ≡ up self.0 }
+    final fn plain(self) -> u64
+        ensures value { result ≡ up (number self) }
         ensures upper_bound { result ≤ signed_most }
     {
-        above(self.0)
+        let x = self.raw();
+        if x < 0 { 0 } else { x as u64 }
     }
 
-    pub fn plus(self, other: Cents) -> Cents
-        requires { nat_abs self.0 + nat_abs other.0 < 2 ^ 62 }
-        ensures value { result ≡ cents (self.0 +ℤ other.0) }
-        ensures result_bound { nat_abs result.0 ≤ nat_abs self.0 + nat_abs other.0 }
+    // How much there is, held or owed.
+    final fn size(self) -> u64
+        ensures { result ≡ nat_abs (number self) }
     {
-        Cents(sum(self.0, other.0))
+        self.raw().unsigned_abs()
     }
 
-    pub fn negated(self) -> Cents
-        requires { nat_abs self.0 < 2 ^ 62 }
-        ensures value { result ≡ cents (neg_ℤ self.0) }
-        ensures result_value { nat_abs result.0 ≡ nat_abs self.0 }
+    final fn plus(self, other: Self) -> Self
+        requires { Within (nat_abs (number self) + nat_abs (number other)) }
+        ensures value { result ≡ made (number self +ℤ number other) }
+        ensures result_bound { nat_abs (number result) ≤ nat_abs (number self) + nat_abs (number other) }
     {
-        Cents(negative(self.0))
+        Self::signed(self.raw() + other.raw())
     }
 
-    pub fn less(self, other: Cents) -> Cents
-        requires { nat_abs self.0 + nat_abs other.0 < 2 ^ 62 }
-        ensures value { result ≡ cents (self.0 -ℤ other.0) }
-        ensures result_bound { nat_abs result.0 ≤ nat_abs self.0 + nat_abs other.0 }
+    final fn negated(self) -> Self
+        requires { Within (nat_abs (number self)) }
+        ensures value { result ≡ made (neg_ℤ (number self)) }
+        ensures result_value { nat_abs (number result) ≡ nat_abs (number self) }
     {
-        self.plus(other.negated())
+        Self::signed(-self.raw())
     }
 
-    pub fn bits(self) -> u64
-        ensures { result ≡ of_z w64 self.0 }
+    final fn less(self, other: Self) -> Self
+        requires { Within (nat_abs (number self) + nat_abs (number other)) }
+        ensures value { result ≡ made (number self -ℤ number other) }
+        ensures result_bound { nat_abs (number result) ≤ nat_abs (number self) + nat_abs (number other) }
     {
-        bytes::bits64(self.0)
+        Self::signed(self.raw() - other.raw())
     }
 
-    pub fn low(self) -> u32
-        ensures { result ≡ low self.0 }
+    // The 64 bits of a signed amount.
+    final fn bits(self) -> u64
+        ensures { result ≡ of_z w64 (number self) }
     {
-        lower(self.bits())
+        self.raw().cast_unsigned()
+    }
+
+    // The lower 32 of them: an amount that is never below zero, or a signed one of 32 bits.
+    final fn low(self) -> u32
+        ensures { result ≡ low (number self) }
+    {
+        (self.bits() % 4294967296) as u32
     }
 }
 
-fn sum(a: i64, b: i64) -> i64
-    requires { nat_abs a + nat_abs b ≤ signed_most }
-    ensures { (result ≡ a +ℤ b) × (nat_abs result ≤ nat_abs a + nat_abs b) }
-{
-    a + b
-}
+// A count of shares, below zero for what is owed.
+#[derive(Clone, Copy, PartialEq, Eq, PartialOrd, Ord)]
+pub struct Shares(pub i64);
 
-fn negative(x: i64) -> i64
-    requires { nat_abs x ≤ signed_most }
-    ensures { (result ≡ neg_ℤ x) × (nat_abs result ≡ nat_abs x) }
-{
-    0 - x
-}
+impl Amount for Shares {
+    ghost made = { shares };
 
-fn signed(x: u64) -> i64
-    requires { x ≤ signed_most }
-    ensures { result ≡ pos x }
-{
-    x as i64
-}
+    ghost number = { λ s. s.0 };
 
-// What is below zero counts as 0.
-fn above(x: i64) -> u64
-    ensures { result ≡ up x }
-{
-    if x < 0 { 0 } else { x as u64 }
-}
+    ghost Within = { λ n. n ≤ signed_most };
 
-// How far a number is from zero.
-fn distance(x: i64) -> u64
-    ensures { result ≡ nat_abs x }
-{
-    if x < 0 {
-        return (-1 - x) as u64 + 1;
+    ghost keeps = { λ z. refl };
+
+    ghost in_bits = { λ n h. h };
+
+    fn signed(x: i64) -> Shares {
+        Shares(x)
     }
-    x as u64
+
+    fn raw(self) -> i64 {
+        self.0
+    }
 }
 
-fn lower(x: u64) -> u32
-    ensures { result ≡ x % 4294967296 }
-{
-    (x % 4294967296) as u32
+// Money. What is worked out with it stays below 2^62, so that a debugger shows it as it is.
+#[derive(Clone, Copy, PartialEq, Eq, PartialOrd, Ord)]
+pub struct Cents(pub i64);
+
+impl Amount for Cents {
+    ghost made = { cents };
+
+    ghost number = { λ c. c.0 };
+
+    ghost Within = { λ n. n < 2 ^ 62 };
+
+    ghost keeps = { λ z. refl };
+
+    ghost in_bits = { λ n h. in_range_holds h };
+
+    fn signed(x: i64) -> Cents {
+        Cents(x)
+    }
+
+    fn raw(self) -> i64 {
+        self.0
+    }
 }
 
 // Cents for one share.
-#[derive(Clone, Copy)]
+#[derive(Clone, Copy, PartialEq, Eq, PartialOrd, Ord)]
 pub struct Price(pub u32);
 
-#[derive(Clone, Copy)]
+#[derive(Clone, Copy, PartialEq, Eq, PartialOrd, Ord)]
 pub struct TradeNo(pub u64);
 
-#[derive(Clone, Copy)]
+#[derive(Clone, Copy, PartialEq, Eq, PartialOrd, Ord)]
 pub struct AccountNo(pub u32);
 
-#[derive(Clone, Copy)]
+#[derive(Clone, Copy, PartialEq, Eq, PartialOrd, Ord)]
 pub struct BrokerNo(pub u32);
 
-#[derive(Clone, Copy)]
+#[derive(Clone, Copy, PartialEq, Eq, PartialOrd, Ord)]
 pub struct CustomerNo(pub u32);
 
 // The number of a tax rate.
-#[derive(Clone, Copy)]
+#[derive(Clone, Copy, PartialEq, Eq, PartialOrd, Ord)]
 pub struct RateNo(pub u32);
 
 // Who may order for an account beside its owner; 0 is the owner.
-#[derive(Clone, Copy)]
+#[derive(Clone, Copy, PartialEq, Eq, PartialOrd, Ord)]
 pub struct ExecutorNo(pub u32);
 
 // A tax rate.
-#[derive(Clone, Copy)]
+#[derive(Clone, Copy, PartialEq, Eq, PartialOrd, Ord)]
 pub struct PerHundredThousand(pub u32);
 
 // A commission rate, in hundredths of a percent.
-#[derive(Clone, Copy)]
+#[derive(Clone, Copy, PartialEq, Eq, PartialOrd, Ord)]
 pub struct PerTenThousand(pub u32);
 
 // Seconds from 2000-01-01.
-#[derive(Clone, Copy)]
+#[derive(Clone, Copy, PartialEq, Eq, PartialOrd, Ord)]
 pub struct Time(pub u32);
-
-fn signed_at(part: &[u8], at: usize) -> i64
-    requires { at + 8 ≤ length part.now }
-    ensures { result ≡ to_z w64 (le 8 part.now at) }
-{
-    bytes::signed64(bytes::u64_at(part, at))
-}
-
-fn plain_at(part: &[u8], at: usize) -> i64
-    requires { at + 4 ≤ length part.now }
-    ensures { result ≡ pos (le 4 part.now at) }
-{
-    bytes::u32_at(part, at) as i64
-}
-
-fn short_at(part: &[u8], at: usize) -> i64
-    requires { at + 4 ≤ length part.now }
-    ensures { result ≡ to_z w32 (le 4 part.now at) }
-{
-    bytes::signed32(bytes::u32_at(part, at)) as i64
-}
-
-// Money in eight bytes, signed.
-pub fn cents_at(part: &[u8], at: usize) -> Cents
-    requires { at + 8 ≤ length part.now }
-    ensures { result ≡ cents (to_z w64 (le 8 part.now at)) }
-{
-    Cents(signed_at(part, at))
-}
-
-// Money in four bytes, never below zero.
-pub fn cents_u32_at(part: &[u8], at: usize) -> Cents
-    requires { at + 4 ≤ length part.now }
-    ensures { result ≡ cents (pos (le 4 part.now at)) }
-{
-    Cents(plain_at(part, at))
-}
-
-// Shares in eight bytes, signed.
-pub fn shares_at(part: &[u8], at: usize) -> Shares
-    requires { at + 8 ≤ length part.now }
-    ensures { result ≡ shares (to_z w64 (le 8 part.now at)) }
-{
-    Shares(signed_at(part, at))
-}
-
-// Shares in four bytes, never below zero.
-pub fn shares_u32_at(part: &[u8], at: usize) -> Shares
-    requires { at + 4 ≤ length part.now }
-    ensures { result ≡ shares (pos (le 4 part.now at)) }
-{
-    Shares(plain_at(part, at))
-}
-
-// Shares in four bytes, signed.
-pub fn shares_i32_at(part: &[u8], at: usize) -> Shares
-    requires { at + 4 ≤ length part.now }
-    ensures { result ≡ shares (to_z w32 (le 4 part.now at)) }
-{
-    Shares(short_at(part, at))
-}
