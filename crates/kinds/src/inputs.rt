@@ -3,12 +3,13 @@ ghost use Rattle.std.specs.Prelude.{◌≡◌, length};
 ghost use Rattle.record.specs.Grid.{decode};
 ghost use Rattle.kinds.specs.Inputs.{feed_input_of, lookup_input_of, order_input_of, result_input_of};
 
-use crate::limits::{Beyond, Clause, Limits, R8, R32, Ranges, Rule};
+use crate::limits::{Beyond, Clause, Limits, Ranges, Rule, Span};
+use crate::typed::Typed;
 use record::bytes;
 use record::codes::Kind;
 use record::row::Grid;
 use record::symbol::Symbol;
-use units::{AccountNo, ExecutorNo, Price, Shares, Time, TradeNo};
+use units::{AccountNo, Amount, ExecutorNo, Price, Shares, Time, TradeNo};
 
 // What an order is given. Executor 0 is the owner of the account.
 #[derive(Clone, Copy)]
@@ -26,14 +27,14 @@ pub struct OrderInput {
 impl OrderInput {
     pub const RULE: Rule = Rule {
         limits: Limits {
-            kind: R8(Kind::ORDER, Kind::ORDER),
+            kind: Span(Kind::ORDER, Kind::ORDER),
             form: Ranges::TRADE_TYPE,
-            flags: R8(0, 7),
+            flags: Span(0, 7),
             party: Ranges::NUMBER,
             symbol: Ranges::ANY64,
             n1: Ranges::SHARES,
-            n2: R32(0, Ranges::PRICE_MOST),
-            n3: R32(0, Ranges::NUMBER_MOST),
+            n2: Span(0, Ranges::PRICE_MOST),
+            n3: Span(0, Ranges::NUMBER_MOST),
             time: Ranges::TIME,
             ..Limits::NONE
         },
@@ -43,11 +44,13 @@ impl OrderInput {
             ..Beyond::NOTHING
         },
     };
+}
 
-    pub fn from_bytes(part: &[u8]) -> OrderInput
-        requires { length part.now ≡ 64 }
-        ensures { result ≡ order_input_of (decode part.now) }
-    {
+impl Typed for OrderInput {
+    ghost of_row = { order_input_of };
+
+    #[tactic(auto, unfolding(crate::specs::Inputs::order_input_of, record::specs::Grid::decode))]
+    fn from_bytes(part: &[u8]) -> OrderInput {
         OrderInput {
             trade_type: part[Grid::FORM],
             flags: part[Grid::FLAGS],
@@ -72,7 +75,7 @@ pub struct ResultInput {
 impl ResultInput {
     pub const RULE: Rule = Rule {
         limits: Limits {
-            kind: R8(Kind::RESULT, Kind::RESULT),
+            kind: Span(Kind::RESULT, Kind::RESULT),
             id: Ranges::TRADE_NO,
             n1: Ranges::PRICE,
             time: Ranges::TIME,
@@ -80,11 +83,13 @@ impl ResultInput {
         },
         beyond: Beyond::NOTHING,
     };
+}
 
-    pub fn from_bytes(part: &[u8]) -> ResultInput
-        requires { length part.now ≡ 64 }
-        ensures { result ≡ result_input_of (decode part.now) }
-    {
+impl Typed for ResultInput {
+    ghost of_row = { result_input_of };
+
+    #[tactic(auto, unfolding(crate::specs::Inputs::result_input_of, record::specs::Grid::decode))]
+    fn from_bytes(part: &[u8]) -> ResultInput {
         ResultInput {
             trade: TradeNo(bytes::u64_at(part, Grid::ID)),
             price: Price(bytes::u32_at(part, Grid::N1)),
@@ -105,7 +110,7 @@ pub struct FeedInput {
 impl FeedInput {
     pub const RULE: Rule = Rule {
         limits: Limits {
-            kind: R8(Kind::FEED, Kind::FEED),
+            kind: Span(Kind::FEED, Kind::FEED),
             symbol: Ranges::ANY64,
             n1: Ranges::PRICE,
             n2: Ranges::SHARES,
@@ -117,11 +122,13 @@ impl FeedInput {
             ..Beyond::NOTHING
         },
     };
+}
 
-    pub fn from_bytes(part: &[u8]) -> FeedInput
-        requires { length part.now ≡ 64 }
-        ensures { result ≡ feed_input_of (decode part.now) }
-    {
+impl Typed for FeedInput {
+    ghost of_row = { feed_input_of };
+
+    #[tactic(auto, unfolding(crate::specs::Inputs::feed_input_of, record::specs::Grid::decode))]
+    fn from_bytes(part: &[u8]) -> FeedInput {
         FeedInput {
             symbol: Symbol::at(part, Grid::SYMBOL),
             price: Price(bytes::u32_at(part, Grid::N1)),
@@ -140,17 +147,19 @@ pub struct LookupInput {
 impl LookupInput {
     pub const RULE: Rule = Rule {
         limits: Limits {
-            kind: R8(Kind::LOOKUP, Kind::LOOKUP),
+            kind: Span(Kind::LOOKUP, Kind::LOOKUP),
             id: Ranges::TRADE_NO,
             ..Limits::NONE
         },
         beyond: Beyond::NOTHING,
     };
+}
 
-    pub fn from_bytes(part: &[u8]) -> LookupInput
-        requires { length part.now ≡ 64 }
-        ensures { result ≡ lookup_input_of (decode part.now) }
-    {
+impl Typed for LookupInput {
+    ghost of_row = { lookup_input_of };
+
+    #[tactic(auto, unfolding(crate::specs::Inputs::lookup_input_of, record::specs::Grid::decode))]
+    fn from_bytes(part: &[u8]) -> LookupInput {
         LookupInput {
             trade: TradeNo(bytes::u64_at(part, Grid::ID)),
         }

@@ -5,3 +5,4 @@
 pub mod inputs;
 pub mod limits;
 pub mod rows;
+pub mod typed;

@@ -3,52 +3,46 @@
 
 // The lowest number and the highest.
 #[derive(Clone, Copy)]
-pub struct R8(pub u8, pub u8);
-
-#[derive(Clone, Copy)]
-pub struct R32(pub u32, pub u32);
-
-#[derive(Clone, Copy)]
-pub struct R64(pub u64, pub u64);
+pub struct Span<T>(pub T, pub T);
 
 // A range for each field of a row.
 #[derive(Clone, Copy)]
 pub struct Limits {
-    pub kind: R8,
-    pub form: R8,
-    pub status: R8,
-    pub flags: R8,
-    pub party: R32,
-    pub id: R64,
-    pub symbol: R64,
-    pub n1: R32,
-    pub n2: R32,
-    pub n3: R32,
-    pub n4: R32,
-    pub m1: R64,
-    pub m2: R64,
-    pub time: R32,
-    pub n5: R32,
+    pub kind: Span<u8>,
+    pub form: Span<u8>,
+    pub status: Span<u8>,
+    pub flags: Span<u8>,
+    pub party: Span<u32>,
+    pub id: Span<u64>,
+    pub symbol: Span<u64>,
+    pub n1: Span<u32>,
+    pub n2: Span<u32>,
+    pub n3: Span<u32>,
+    pub n4: Span<u32>,
+    pub m1: Span<u64>,
+    pub m2: Span<u64>,
+    pub time: Span<u32>,
+    pub n5: Span<u32>,
 }
 
 impl Limits {
     // Unused fields are zero. So are all of a free record's.
     pub const NONE: Limits = Limits {
-        kind: R8(0, 0),
-        form: R8(0, 0),
-        status: R8(0, 0),
-        flags: R8(0, 0),
-        party: R32(0, 0),
-        id: R64(0, 0),
-        symbol: R64(0, 0),
-        n1: R32(0, 0),
-        n2: R32(0, 0),
-        n3: R32(0, 0),
-        n4: R32(0, 0),
-        m1: R64(0, 0),
-        m2: R64(0, 0),
-        time: R32(0, 0),
-        n5: R32(0, 0),
+        kind: Span(0, 0),
+        form: Span(0, 0),
+        status: Span(0, 0),
+        flags: Span(0, 0),
+        party: Span(0, 0),
+        id: Span(0, 0),
+        symbol: Span(0, 0),
+        n1: Span(0, 0),
+        n2: Span(0, 0),
+        n3: Span(0, 0),
+        n4: Span(0, 0),
+        m1: Span(0, 0),
+        m2: Span(0, 0),
+        time: Span(0, 0),
+        n5: Span(0, 0),
     };
 }
 
@@ -140,19 +134,19 @@ pub struct Ranges {}
 
 impl Ranges {
     // A field whose rule is no range: a symbol, or a signed number.
-    pub const ANY32: R32 = R32(0, 0xffff_ffff);
+    pub const ANY32: Span<u32> = Span(0, 0xffff_ffff);
 
-    pub const ANY64: R64 = R64(0, 0xffff_ffff_ffff_ffff);
+    pub const ANY64: Span<u64> = Span(0, 0xffff_ffff_ffff_ffff);
     // A number that names a party or a rate.
     pub const NUMBER_MOST: u32 = 999_999_999;
 
-    pub const NUMBER: R32 = R32(1, Ranges::NUMBER_MOST);
+    pub const NUMBER: Span<u32> = Span(1, Ranges::NUMBER_MOST);
 
-    pub const TRADE_NO: R64 = R64(1, 999_999_999_999_999);
+    pub const TRADE_NO: Span<u64> = Span(1, 999_999_999_999_999);
 
     pub const PRICE_MOST: u32 = 99_999_999;
 
-    pub const PRICE: R32 = R32(1, Ranges::PRICE_MOST);
+    pub const PRICE: Span<u32> = Span(1, Ranges::PRICE_MOST);
 
     pub const SHARES_MOST: u32 = 999_999;
 
@@ -162,27 +156,27 @@ impl Ranges {
     // A commission rate of 100 percent.
     pub const COMMISSION_MOST: u32 = 10_000;
 
-    pub const SHARES: R32 = R32(1, Ranges::SHARES_MOST);
+    pub const SHARES: Span<u32> = Span(1, Ranges::SHARES_MOST);
 
     // Seconds from 2000-01-01.
     pub const TIME_MOST: u32 = 4_000_000_000;
 
-    pub const TIME: R32 = R32(0, Ranges::TIME_MOST);
+    pub const TIME: Span<u32> = Span(0, Ranges::TIME_MOST);
 
     // From a trade to its settlement.
     pub const SETTLEMENT_SECONDS: u32 = 172_800;
 
-    pub const TRADE_TYPE: R8 = R8(1, 5);
+    pub const TRADE_TYPE: Span<u8> = Span(1, 5);
 
-    pub const STATUS: R8 = R8(1, 3);
+    pub const STATUS: Span<u8> = Span(1, 3);
 
-    pub const TIER: R8 = R8(1, 3);
+    pub const TIER: Span<u8> = Span(1, 3);
 
-    pub const EXCHANGE: R8 = R8(1, 4);
+    pub const EXCHANGE: Span<u8> = Span(1, 4);
 
-    pub const CHARGE: R32 = R32(0, 999_999);
+    pub const CHARGE: Span<u32> = Span(0, 999_999);
     // A trade's commission, and its tax.
-    pub const FEE: R64 = R64(0, 100_000_000_000_000);
+    pub const FEE: Span<u64> = Span(0, 100_000_000_000_000);
 
     pub const VOLUME_MOST: u64 = 999_999_999_999;
     // A balance, a settlement and a cash row's amount, either way from zero.

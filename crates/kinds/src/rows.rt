@@ -8,14 +8,15 @@ ghost use Rattle.kinds.specs.Kinds.{lot_history_of, settlement_of, cash_of, perm
 ghost use Rattle.kinds.specs.Written.{account_row, broker_row, cash_row, lot_history_row, lot_row, request_row};
 ghost use Rattle.kinds.specs.Written.{security_row, settlement_row, summary_row, trade_history_row, trade_row};
 
-use crate::limits::{Beyond, Clause, Limits, Marks, R8, R32, R64, Ranges};
+use crate::limits::{Beyond, Clause, Limits, Marks, Ranges, Span};
+use crate::typed::Typed;
 use record::bytes;
 use record::codes::Kind;
 use record::row::{Grid, Row};
 use record::symbol::Symbol;
 use units::{
-    AccountNo, BrokerNo, Cents, CustomerNo, ExecutorNo, PerHundredThousand, PerTenThousand, Price,
-    RateNo, Shares, Time, TradeNo,
+    AccountNo, Amount, BrokerNo, Cents, CustomerNo, ExecutorNo, PerHundredThousand, PerTenThousand,
+    Price, RateNo, Shares, Time, TradeNo,
 };
 
 // The row of a free record.
@@ -60,38 +61,43 @@ impl Broker {
     pub const COMMISSION: usize = Grid::M1;
 
     pub const LIMITS: Limits = Limits {
-        kind: R8(Broker::KIND, Broker::KIND),
+        kind: Span(Broker::KIND, Broker::KIND),
         party: Ranges::NUMBER,
-        n1: R32(0, 999_999_999),
-        m1: R64(0, 999_999_999_999_999),
+        n1: Span(0, 999_999_999),
+        m1: Span(0, 999_999_999_999_999),
         ..Limits::NONE
     };
 
     pub const BEYOND: Beyond = Beyond::NOTHING;
 
     pub const KEY: Marks = Marks::PARTY;
+}
 
-    pub fn from_bytes(part: &[u8]) -> Broker
-        requires { length part.now ≡ 64 }
-        ensures { result ≡ broker_of (decode part.now) }
-    {
+impl Typed for Broker {
+    ghost of_row = { broker_of };
+
+    #[tactic(auto, unfolding(crate::specs::Kinds::broker_of, record::specs::Grid::decode))]
+    fn from_bytes(part: &[u8]) -> Broker {
         Broker {
             no: BrokerNo(bytes::u32_at(part, Broker::NO)),
             trades: bytes::u32_at(part, Broker::TRADES),
             commission: Cents::at(part, Broker::COMMISSION),
         }
     }
+}
 
-    pub fn row(self) -> Row
-        ensures { result ≡ broker_row self }
-    {
-        let commission = self.commission;
-        let mut r = Blank::ROW;
-        r.kind = Broker::KIND;
-        r.party = self.no.0;
-        r.n1 = self.trades;
-        r.m1 = commission.bits();
-        r
+impl From<Broker> for Row {
+    ghost from_gives = { λ broker r. r ≡ broker_row broker };
+
+    #[tactic(auto, unfolding(crate::specs::Written::broker_row))]
+    fn from(broker: Broker) -> Row {
+        Row {
+            kind: Broker::KIND,
+            party: broker.no.0,
+            n1: broker.trades,
+            m1: broker.commission.bits(),
+            ..Blank::ROW
+        }
     }
 }
 
@@ -110,7 +116,7 @@ impl Customer {
     pub const TIER: usize = Grid::FORM;
 
     pub const LIMITS: Limits = Limits {
-        kind: R8(Customer::KIND, Customer::KIND),
+        kind: Span(Customer::KIND, Customer::KIND),
         form: Ranges::TIER,
         party: Ranges::NUMBER,
         ..Limits::NONE
@@ -119,11 +125,13 @@ impl Customer {
     pub const BEYOND: Beyond = Beyond::NOTHING;
 
     pub const KEY: Marks = Marks::PARTY;
+}
 
-    pub fn from_bytes(part: &[u8]) -> Customer
-        requires { length part.now ≡ 64 }
-        ensures { result ≡ customer_of (decode part.now) }
-    {
+impl Typed for Customer {
+    ghost of_row = { customer_of };
+
+    #[tactic(auto, unfolding(crate::specs::Kinds::customer_of, record::specs::Grid::decode))]
+    fn from_bytes(part: &[u8]) -> Customer {
         Customer {
             no: CustomerNo(bytes::u32_at(part, Customer::NO)),
             tier: part[Customer::TIER],
@@ -146,20 +154,22 @@ impl TaxRate {
     pub const RATE: usize = Grid::N1;
 
     pub const LIMITS: Limits = Limits {
-        kind: R8(TaxRate::KIND, TaxRate::KIND),
+        kind: Span(TaxRate::KIND, TaxRate::KIND),
         party: Ranges::NUMBER,
-        n1: R32(0, Ranges::RATE_MOST),
+        n1: Span(0, Ranges::RATE_MOST),
         ..Limits::NONE
     };
 
     pub const BEYOND: Beyond = Beyond::NOTHING;
 
     pub const KEY: Marks = Marks::PARTY;
+}
 
-    pub fn from_bytes(part: &[u8]) -> TaxRate
-        requires { length part.now ≡ 64 }
-        ensures { result ≡ tax_rate_of (decode part.now) }
-    {
+impl Typed for TaxRate {
+    ghost of_row = { tax_rate_of };
+
+    #[tactic(auto, unfolding(crate::specs::Kinds::tax_rate_of, record::specs::Grid::decode))]
+    fn from_bytes(part: &[u8]) -> TaxRate {
         TaxRate {
             no: RateNo(bytes::u32_at(part, TaxRate::NO)),
             rate: PerHundredThousand(bytes::u32_at(part, TaxRate::RATE)),
@@ -182,7 +192,7 @@ impl CustomerRate {
     pub const RATE: usize = Grid::N1;
 
     pub const LIMITS: Limits = Limits {
-        kind: R8(CustomerRate::KIND, CustomerRate::KIND),
+        kind: Span(CustomerRate::KIND, CustomerRate::KIND),
         party: Ranges::NUMBER,
         n1: Ranges::NUMBER,
         ..Limits::NONE
@@ -194,11 +204,13 @@ impl CustomerRate {
         n1: true,
         ..Marks::PARTY
     };
+}
 
-    pub fn from_bytes(part: &[u8]) -> CustomerRate
-        requires { length part.now ≡ 64 }
-        ensures { result ≡ customer_rate_of (decode part.now) }
-    {
+impl Typed for CustomerRate {
+    ghost of_row = { customer_rate_of };
+
+    #[tactic(auto, unfolding(crate::specs::Kinds::customer_rate_of, record::specs::Grid::decode))]
+    fn from_bytes(part: &[u8]) -> CustomerRate {
         CustomerRate {
             customer: CustomerNo(bytes::u32_at(part, CustomerRate::CUSTOMER)),
             rate: RateNo(bytes::u32_at(part, CustomerRate::RATE)),
@@ -230,8 +242,8 @@ impl Account {
     pub const BALANCE: usize = Grid::M1;
 
     pub const LIMITS: Limits = Limits {
-        kind: R8(Account::KIND, Account::KIND),
-        form: R8(0, 2),
+        kind: Span(Account::KIND, Account::KIND),
+        form: Span(0, 2),
         party: Ranges::NUMBER,
         n1: Ranges::NUMBER,
         n2: Ranges::NUMBER,
@@ -245,11 +257,13 @@ impl Account {
     };
 
     pub const KEY: Marks = Marks::PARTY;
+}
 
-    pub fn from_bytes(part: &[u8]) -> Account
-        requires { length part.now ≡ 64 }
-        ensures { result ≡ account_of (decode part.now) }
-    {
+impl Typed for Account {
+    ghost of_row = { account_of };
+
+    #[tactic(auto, unfolding(crate::specs::Kinds::account_of, record::specs::Grid::decode))]
+    fn from_bytes(part: &[u8]) -> Account {
         Account {
             no: AccountNo(bytes::u32_at(part, Account::NO)),
             tax_status: part[Account::TAX_STATUS],
@@ -258,19 +272,22 @@ impl Account {
             balance: Cents::at(part, Account::BALANCE),
         }
     }
+}
 
-    pub fn row(self) -> Row
-        ensures { result ≡ account_row self }
-    {
-        let balance = self.balance;
-        let mut r = Blank::ROW;
-        r.kind = Account::KIND;
-        r.form = self.tax_status;
-        r.party = self.no.0;
-        r.n1 = self.broker.0;
-        r.n2 = self.customer.0;
-        r.m1 = balance.bits();
-        r
+impl From<Account> for Row {
+    ghost from_gives = { λ account r. r ≡ account_row account };
+
+    #[tactic(auto, unfolding(crate::specs::Written::account_row))]
+    fn from(account: Account) -> Row {
+        Row {
+            kind: Account::KIND,
+            form: account.tax_status,
+            party: account.no.0,
+            n1: account.broker.0,
+            n2: account.customer.0,
+            m1: account.balance.bits(),
+            ..Blank::ROW
+        }
     }
 }
 
@@ -298,11 +315,11 @@ impl Security {
     pub const TIME: usize = Grid::TIME;
 
     pub const LIMITS: Limits = Limits {
-        kind: R8(Security::KIND, Security::KIND),
+        kind: Span(Security::KIND, Security::KIND),
         form: Ranges::EXCHANGE,
         symbol: Ranges::ANY64,
         n1: Ranges::PRICE,
-        m1: R64(0, Ranges::VOLUME_MOST),
+        m1: Span(0, Ranges::VOLUME_MOST),
         time: Ranges::TIME,
         ..Limits::NONE
     };
@@ -316,11 +333,13 @@ impl Security {
         symbol: true,
         ..Marks::NONE
     };
+}
 
-    pub fn from_bytes(part: &[u8]) -> Security
-        requires { length part.now ≡ 64 }
-        ensures { result ≡ security_of (decode part.now) }
-    {
+impl Typed for Security {
+    ghost of_row = { security_of };
+
+    #[tactic(auto, unfolding(crate::specs::Kinds::security_of, record::specs::Grid::decode))]
+    fn from_bytes(part: &[u8]) -> Security {
         Security {
             symbol: Symbol::at(part, Security::SYMBOL),
             exchange: part[Security::EXCHANGE],
@@ -329,20 +348,22 @@ impl Security {
             time: Time(bytes::u32_at(part, Security::TIME)),
         }
     }
+}
 
-    pub fn row(self) -> Row
-        ensures { result ≡ security_row self }
-    {
-        let symbol = self.symbol;
-        let volume = self.volume;
-        let mut r = Blank::ROW;
-        r.kind = Security::KIND;
-        r.form = self.exchange;
-        r.symbol = symbol;
-        r.n1 = self.last_price.0;
-        r.m1 = volume.bits();
-        r.time = self.time.0;
-        r
+impl From<Security> for Row {
+    ghost from_gives = { λ security r. r ≡ security_row security };
+
+    #[tactic(auto, unfolding(crate::specs::Written::security_row))]
+    fn from(security: Security) -> Row {
+        Row {
+            kind: Security::KIND,
+            form: security.exchange,
+            symbol: security.symbol,
+            n1: security.last_price.0,
+            m1: security.volume.bits(),
+            time: security.time.0,
+            ..Blank::ROW
+        }
     }
 }
 
@@ -373,13 +394,13 @@ impl Band {
     pub const RATE: usize = Grid::N3;
 
     pub const LIMITS: Limits = Limits {
-        kind: R8(Band::KIND, Band::KIND),
+        kind: Span(Band::KIND, Band::KIND),
         form: Ranges::TRADE_TYPE,
         status: Ranges::TIER,
         flags: Ranges::EXCHANGE,
         n1: Ranges::SHARES,
         n2: Ranges::SHARES,
-        n3: R32(0, Ranges::COMMISSION_MOST),
+        n3: Span(0, Ranges::COMMISSION_MOST),
         ..Limits::NONE
     };
 
@@ -395,11 +416,13 @@ impl Band {
         n1: true,
         ..Marks::NONE
     };
+}
 
-    pub fn from_bytes(part: &[u8]) -> Band
-        requires { length part.now ≡ 64 }
-        ensures { result ≡ band_of (decode part.now) }
-    {
+impl Typed for Band {
+    ghost of_row = { band_of };
+
+    #[tactic(auto, unfolding(crate::specs::Kinds::band_of, record::specs::Grid::decode))]
+    fn from_bytes(part: &[u8]) -> Band {
         Band {
             trade_type: part[Band::TRADE_TYPE],
             tier: part[Band::TIER],
@@ -429,7 +452,7 @@ impl Charge {
     pub const AMOUNT: usize = Grid::N1;
 
     pub const LIMITS: Limits = Limits {
-        kind: R8(Charge::KIND, Charge::KIND),
+        kind: Span(Charge::KIND, Charge::KIND),
         form: Ranges::TRADE_TYPE,
         status: Ranges::TIER,
         n1: Ranges::CHARGE,
@@ -443,11 +466,13 @@ impl Charge {
         status: true,
         ..Marks::NONE
     };
+}
 
-    pub fn from_bytes(part: &[u8]) -> Charge
-        requires { length part.now ≡ 64 }
-        ensures { result ≡ charge_of (decode part.now) }
-    {
+impl Typed for Charge {
+    ghost of_row = { charge_of };
+
+    #[tactic(auto, unfolding(crate::specs::Kinds::charge_of, record::specs::Grid::decode))]
+    fn from_bytes(part: &[u8]) -> Charge {
         Charge {
             trade_type: part[Charge::TRADE_TYPE],
             tier: part[Charge::TIER],
@@ -504,16 +529,16 @@ impl Trade {
     pub const TIME: usize = Grid::TIME;
 
     pub const LIMITS: Limits = Limits {
-        kind: R8(Trade::KIND, Trade::KIND),
+        kind: Span(Trade::KIND, Trade::KIND),
         form: Ranges::TRADE_TYPE,
         status: Ranges::STATUS,
-        flags: R8(0, 3),
+        flags: Span(0, 3),
         party: Ranges::NUMBER,
         id: Ranges::TRADE_NO,
         symbol: Ranges::ANY64,
         n1: Ranges::SHARES,
         n2: Ranges::PRICE,
-        n3: R32(0, Ranges::PRICE_MOST),
+        n3: Span(0, Ranges::PRICE_MOST),
         n4: Ranges::CHARGE,
         m1: Ranges::FEE,
         m2: Ranges::FEE,
@@ -528,11 +553,13 @@ impl Trade {
     };
 
     pub const KEY: Marks = Marks::ID;
+}
 
-    pub fn from_bytes(part: &[u8]) -> Trade
-        requires { length part.now ≡ 64 }
-        ensures { result ≡ trade_of (decode part.now) }
-    {
+impl Typed for Trade {
+    ghost of_row = { trade_of };
+
+    #[tactic(auto, unfolding(crate::specs::Kinds::trade_of, record::specs::Grid::decode))]
+    fn from_bytes(part: &[u8]) -> Trade {
         Trade {
             no: TradeNo(bytes::u64_at(part, Trade::NO)),
             trade_type: part[Trade::TRADE_TYPE],
@@ -549,31 +576,30 @@ impl Trade {
             time: Time(bytes::u32_at(part, Trade::TIME)),
         }
     }
+}
 
-    pub fn row(self) -> Row
-        ensures { result ≡ trade_row self }
-    {
-        let symbol = self.symbol;
-        let shares = self.shares;
-        let charge = self.charge;
-        let commission = self.commission;
-        let tax = self.tax;
-        let mut r = Blank::ROW;
-        r.kind = Trade::KIND;
-        r.form = self.trade_type;
-        r.status = self.status;
-        r.flags = self.flags;
-        r.party = self.account.0;
-        r.id = self.no.0;
-        r.symbol = symbol;
-        r.n1 = shares.low();
-        r.n2 = self.bid.0;
-        r.n3 = self.price.0;
-        r.n4 = charge.low();
-        r.m1 = commission.bits();
-        r.m2 = tax.bits();
-        r.time = self.time.0;
-        r
+impl From<Trade> for Row {
+    ghost from_gives = { λ trade r. r ≡ trade_row trade };
+
+    #[tactic(auto, unfolding(crate::specs::Written::trade_row))]
+    fn from(trade: Trade) -> Row {
+        Row {
+            kind: Trade::KIND,
+            form: trade.trade_type,
+            status: trade.status,
+            flags: trade.flags,
+            party: trade.account.0,
+            id: trade.no.0,
+            symbol: trade.symbol,
+            n1: trade.shares.low(),
+            n2: trade.bid.0,
+            n3: trade.price.0,
+            n4: trade.charge.low(),
+            m1: trade.commission.bits(),
+            m2: trade.tax.bits(),
+            time: trade.time.0,
+            ..Blank::ROW
+        }
     }
 }
 
@@ -604,7 +630,7 @@ impl Request {
     pub const BID: usize = Grid::N2;
 
     pub const LIMITS: Limits = Limits {
-        kind: R8(Request::KIND, Request::KIND),
+        kind: Span(Request::KIND, Request::KIND),
         form: Ranges::TRADE_TYPE,
         party: Ranges::NUMBER,
         id: Ranges::TRADE_NO,
@@ -620,11 +646,13 @@ impl Request {
     };
 
     pub const KEY: Marks = Marks::ID;
+}
 
-    pub fn from_bytes(part: &[u8]) -> Request
-        requires { length part.now ≡ 64 }
-        ensures { result ≡ request_of (decode part.now) }
-    {
+impl Typed for Request {
+    ghost of_row = { request_of };
+
+    #[tactic(auto, unfolding(crate::specs::Kinds::request_of, record::specs::Grid::decode))]
+    fn from_bytes(part: &[u8]) -> Request {
         Request {
             no: TradeNo(bytes::u64_at(part, Request::NO)),
             trade_type: part[Request::TRADE_TYPE],
@@ -634,21 +662,23 @@ impl Request {
             bid: Price(bytes::u32_at(part, Request::BID)),
         }
     }
+}
 
-    pub fn row(self) -> Row
-        ensures { result ≡ request_row self }
-    {
-        let symbol = self.symbol;
-        let shares = self.shares;
-        let mut r = Blank::ROW;
-        r.kind = Request::KIND;
-        r.form = self.trade_type;
-        r.party = self.broker.0;
-        r.id = self.no.0;
-        r.symbol = symbol;
-        r.n1 = shares.low();
-        r.n2 = self.bid.0;
-        r
+impl From<Request> for Row {
+    ghost from_gives = { λ request r. r ≡ request_row request };
+
+    #[tactic(auto, unfolding(crate::specs::Written::request_row))]
+    fn from(request: Request) -> Row {
+        Row {
+            kind: Request::KIND,
+            form: request.trade_type,
+            party: request.broker.0,
+            id: request.no.0,
+            symbol: request.symbol,
+            n1: request.shares.low(),
+            n2: request.bid.0,
+            ..Blank::ROW
+        }
     }
 }
 
@@ -670,7 +700,7 @@ impl TradeHistory {
     pub const TIME: usize = Grid::TIME;
 
     pub const LIMITS: Limits = Limits {
-        kind: R8(TradeHistory::KIND, TradeHistory::KIND),
+        kind: Span(TradeHistory::KIND, TradeHistory::KIND),
         status: Ranges::STATUS,
         id: Ranges::TRADE_NO,
         time: Ranges::TIME,
@@ -683,27 +713,33 @@ impl TradeHistory {
         status: true,
         ..Marks::ID
     };
+}
 
-    pub fn from_bytes(part: &[u8]) -> TradeHistory
-        requires { length part.now ≡ 64 }
-        ensures { result ≡ trade_history_of (decode part.now) }
-    {
+impl Typed for TradeHistory {
+    ghost of_row = { trade_history_of };
+
+    #[tactic(auto, unfolding(crate::specs::Kinds::trade_history_of, record::specs::Grid::decode))]
+    fn from_bytes(part: &[u8]) -> TradeHistory {
         TradeHistory {
             no: TradeNo(bytes::u64_at(part, TradeHistory::NO)),
             status: part[TradeHistory::STATUS],
             time: Time(bytes::u32_at(part, TradeHistory::TIME)),
         }
     }
+}
 
-    pub fn row(self) -> Row
-        ensures { result ≡ trade_history_row self }
-    {
-        let mut r = Blank::ROW;
-        r.kind = TradeHistory::KIND;
-        r.status = self.status;
-        r.id = self.no.0;
-        r.time = self.time.0;
-        r
+impl From<TradeHistory> for Row {
+    ghost from_gives = { λ trade_history r. r ≡ trade_history_row trade_history };
+
+    #[tactic(auto, unfolding(crate::specs::Written::trade_history_row))]
+    fn from(trade_history: TradeHistory) -> Row {
+        Row {
+            kind: TradeHistory::KIND,
+            status: trade_history.status,
+            id: trade_history.no.0,
+            time: trade_history.time.0,
+            ..Blank::ROW
+        }
     }
 }
 
@@ -734,7 +770,7 @@ impl Lot {
     pub const TIME: usize = Grid::TIME;
 
     pub const LIMITS: Limits = Limits {
-        kind: R8(Lot::KIND, Lot::KIND),
+        kind: Span(Lot::KIND, Lot::KIND),
         party: Ranges::NUMBER,
         id: Ranges::TRADE_NO,
         symbol: Ranges::ANY64,
@@ -752,11 +788,13 @@ impl Lot {
     };
 
     pub const KEY: Marks = Marks::ID;
+}
 
-    pub fn from_bytes(part: &[u8]) -> Lot
-        requires { length part.now ≡ 64 }
-        ensures { result ≡ lot_of (decode part.now) }
-    {
+impl Typed for Lot {
+    ghost of_row = { lot_of };
+
+    #[tactic(auto, unfolding(crate::specs::Kinds::lot_of, record::specs::Grid::decode))]
+    fn from_bytes(part: &[u8]) -> Lot {
         Lot {
             no: TradeNo(bytes::u64_at(part, Lot::NO)),
             account: AccountNo(bytes::u32_at(part, Lot::ACCOUNT)),
@@ -766,21 +804,23 @@ impl Lot {
             time: Time(bytes::u32_at(part, Lot::TIME)),
         }
     }
+}
 
-    pub fn row(self) -> Row
-        ensures { result ≡ lot_row self }
-    {
-        let symbol = self.symbol;
-        let shares = self.shares;
-        let mut r = Blank::ROW;
-        r.kind = Lot::KIND;
-        r.party = self.account.0;
-        r.id = self.no.0;
-        r.symbol = symbol;
-        r.n1 = self.price.0;
-        r.m1 = shares.bits();
-        r.time = self.time.0;
-        r
+impl From<Lot> for Row {
+    ghost from_gives = { λ lot r. r ≡ lot_row lot };
+
+    #[tactic(auto, unfolding(crate::specs::Written::lot_row))]
+    fn from(lot: Lot) -> Row {
+        Row {
+            kind: Lot::KIND,
+            party: lot.account.0,
+            id: lot.no.0,
+            symbol: lot.symbol,
+            n1: lot.price.0,
+            m1: lot.shares.bits(),
+            time: lot.time.0,
+            ..Blank::ROW
+        }
     }
 }
 
@@ -802,7 +842,7 @@ impl Summary {
     pub const SHARES: usize = Grid::M1;
 
     pub const LIMITS: Limits = Limits {
-        kind: R8(Summary::KIND, Summary::KIND),
+        kind: Span(Summary::KIND, Summary::KIND),
         party: Ranges::NUMBER,
         symbol: Ranges::ANY64,
         m1: Ranges::ANY64,
@@ -819,29 +859,33 @@ impl Summary {
         symbol: true,
         ..Marks::PARTY
     };
+}
 
-    pub fn from_bytes(part: &[u8]) -> Summary
-        requires { length part.now ≡ 64 }
-        ensures { result ≡ summary_of (decode part.now) }
-    {
+impl Typed for Summary {
+    ghost of_row = { summary_of };
+
+    #[tactic(auto, unfolding(crate::specs::Kinds::summary_of, record::specs::Grid::decode))]
+    fn from_bytes(part: &[u8]) -> Summary {
         Summary {
             account: AccountNo(bytes::u32_at(part, Summary::ACCOUNT)),
             symbol: Symbol::at(part, Summary::SYMBOL),
             shares: Shares::at(part, Summary::SHARES),
         }
     }
+}
 
-    pub fn row(self) -> Row
-        ensures { result ≡ summary_row self }
-    {
-        let symbol = self.symbol;
-        let shares = self.shares;
-        let mut r = Blank::ROW;
-        r.kind = Summary::KIND;
-        r.party = self.account.0;
-        r.symbol = symbol;
-        r.m1 = shares.bits();
-        r
+impl From<Summary> for Row {
+    ghost from_gives = { λ summary r. r ≡ summary_row summary };
+
+    #[tactic(auto, unfolding(crate::specs::Written::summary_row))]
+    fn from(summary: Summary) -> Row {
+        Row {
+            kind: Summary::KIND,
+            party: summary.account.0,
+            symbol: summary.symbol,
+            m1: summary.shares.bits(),
+            ..Blank::ROW
+        }
     }
 }
 
@@ -866,7 +910,7 @@ impl LotHistory {
     pub const AFTER: usize = Grid::N2;
 
     pub const LIMITS: Limits = Limits {
-        kind: R8(LotHistory::KIND, LotHistory::KIND),
+        kind: Span(LotHistory::KIND, LotHistory::KIND),
         id: Ranges::TRADE_NO,
         n1: Ranges::ANY32,
         n2: Ranges::ANY32,
@@ -884,11 +928,13 @@ impl LotHistory {
         m2: true,
         ..Marks::ID
     };
+}
 
-    pub fn from_bytes(part: &[u8]) -> LotHistory
-        requires { length part.now ≡ 64 }
-        ensures { result ≡ lot_history_of (decode part.now) }
-    {
+impl Typed for LotHistory {
+    ghost of_row = { lot_history_of };
+
+    #[tactic(auto, unfolding(crate::specs::Kinds::lot_history_of, record::specs::Grid::decode))]
+    fn from_bytes(part: &[u8]) -> LotHistory {
         LotHistory {
             lot: TradeNo(bytes::u64_at(part, LotHistory::LOT)),
             by: TradeNo(bytes::u64_at(part, LotHistory::BY)),
@@ -896,19 +942,21 @@ impl LotHistory {
             after: Shares::at_i32(part, LotHistory::AFTER),
         }
     }
+}
 
-    pub fn row(self) -> Row
-        ensures { result ≡ lot_history_row self }
-    {
-        let before = self.before;
-        let after = self.after;
-        let mut r = Blank::ROW;
-        r.kind = LotHistory::KIND;
-        r.id = self.lot.0;
-        r.n1 = before.low();
-        r.n2 = after.low();
-        r.m2 = self.by.0;
-        r
+impl From<LotHistory> for Row {
+    ghost from_gives = { λ lot_history r. r ≡ lot_history_row lot_history };
+
+    #[tactic(auto, unfolding(crate::specs::Written::lot_history_row))]
+    fn from(lot_history: LotHistory) -> Row {
+        Row {
+            kind: LotHistory::KIND,
+            id: lot_history.lot.0,
+            n1: lot_history.before.low(),
+            n2: lot_history.after.low(),
+            m2: lot_history.by.0,
+            ..Blank::ROW
+        }
     }
 }
 
@@ -933,11 +981,11 @@ impl Settlement {
     pub const DUE: usize = Grid::TIME;
 
     pub const LIMITS: Limits = Limits {
-        kind: R8(Settlement::KIND, Settlement::KIND),
-        flags: R8(0, 1),
+        kind: Span(Settlement::KIND, Settlement::KIND),
+        flags: Span(0, 1),
         id: Ranges::TRADE_NO,
         m1: Ranges::ANY64,
-        time: R32(0, Ranges::TIME_MOST + Ranges::SETTLEMENT_SECONDS),
+        time: Span(0, Ranges::TIME_MOST + Ranges::SETTLEMENT_SECONDS),
         ..Limits::NONE
     };
 
@@ -947,11 +995,13 @@ impl Settlement {
     };
 
     pub const KEY: Marks = Marks::ID;
+}
 
-    pub fn from_bytes(part: &[u8]) -> Settlement
-        requires { length part.now ≡ 64 }
-        ensures { result ≡ settlement_of (decode part.now) }
-    {
+impl Typed for Settlement {
+    ghost of_row = { settlement_of };
+
+    #[tactic(auto, unfolding(crate::specs::Kinds::settlement_of, record::specs::Grid::decode))]
+    fn from_bytes(part: &[u8]) -> Settlement {
         Settlement {
             no: TradeNo(bytes::u64_at(part, Settlement::NO)),
             cash: part[Settlement::CASH],
@@ -959,18 +1009,21 @@ impl Settlement {
             due: Time(bytes::u32_at(part, Settlement::DUE)),
         }
     }
+}
 
-    pub fn row(self) -> Row
-        ensures { result ≡ settlement_row self }
-    {
-        let amount = self.amount;
-        let mut r = Blank::ROW;
-        r.kind = Settlement::KIND;
-        r.flags = self.cash;
-        r.id = self.no.0;
-        r.m1 = amount.bits();
-        r.time = self.due.0;
-        r
+impl From<Settlement> for Row {
+    ghost from_gives = { λ settlement r. r ≡ settlement_row settlement };
+
+    #[tactic(auto, unfolding(crate::specs::Written::settlement_row))]
+    fn from(settlement: Settlement) -> Row {
+        Row {
+            kind: Settlement::KIND,
+            flags: settlement.cash,
+            id: settlement.no.0,
+            m1: settlement.amount.bits(),
+            time: settlement.due.0,
+            ..Blank::ROW
+        }
     }
 }
 
@@ -992,7 +1045,7 @@ impl Cash {
     pub const TIME: usize = Grid::TIME;
 
     pub const LIMITS: Limits = Limits {
-        kind: R8(Cash::KIND, Cash::KIND),
+        kind: Span(Cash::KIND, Cash::KIND),
         id: Ranges::TRADE_NO,
         m1: Ranges::ANY64,
         time: Ranges::TIME,
@@ -1005,28 +1058,33 @@ impl Cash {
     };
 
     pub const KEY: Marks = Marks::ID;
+}
 
-    pub fn from_bytes(part: &[u8]) -> Cash
-        requires { length part.now ≡ 64 }
-        ensures { result ≡ cash_of (decode part.now) }
-    {
+impl Typed for Cash {
+    ghost of_row = { cash_of };
+
+    #[tactic(auto, unfolding(crate::specs::Kinds::cash_of, record::specs::Grid::decode))]
+    fn from_bytes(part: &[u8]) -> Cash {
         Cash {
             no: TradeNo(bytes::u64_at(part, Cash::NO)),
             amount: Cents::at(part, Cash::AMOUNT),
             time: Time(bytes::u32_at(part, Cash::TIME)),
         }
     }
+}
 
-    pub fn row(self) -> Row
-        ensures { result ≡ cash_row self }
-    {
-        let amount = self.amount;
-        let mut r = Blank::ROW;
-        r.kind = Cash::KIND;
-        r.id = self.no.0;
-        r.m1 = amount.bits();
-        r.time = self.time.0;
-        r
+impl From<Cash> for Row {
+    ghost from_gives = { λ cash r. r ≡ cash_row cash };
+
+    #[tactic(auto, unfolding(crate::specs::Written::cash_row))]
+    fn from(cash: Cash) -> Row {
+        Row {
+            kind: Cash::KIND,
+            id: cash.no.0,
+            m1: cash.amount.bits(),
+            time: cash.time.0,
+            ..Blank::ROW
+        }
     }
 }
 
@@ -1045,7 +1103,7 @@ impl Permission {
     pub const EXECUTOR: usize = Grid::N1;
 
     pub const LIMITS: Limits = Limits {
-        kind: R8(Permission::KIND, Permission::KIND),
+        kind: Span(Permission::KIND, Permission::KIND),
         party: Ranges::NUMBER,
         n1: Ranges::NUMBER,
         ..Limits::NONE
@@ -1057,11 +1115,13 @@ impl Permission {
         n1: true,
         ..Marks::PARTY
     };
+}
 
-    pub fn from_bytes(part: &[u8]) -> Permission
-        requires { length part.now ≡ 64 }
-        ensures { result ≡ permission_of (decode part.now) }
-    {
+impl Typed for Permission {
+    ghost of_row = { permission_of };
+
+    #[tactic(auto, unfolding(crate::specs::Kinds::permission_of, record::specs::Grid::decode))]
+    fn from_bytes(part: &[u8]) -> Permission {
         Permission {
             account: AccountNo(bytes::u32_at(part, Permission::ACCOUNT)),
             executor: ExecutorNo(bytes::u32_at(part, Permission::EXECUTOR)),

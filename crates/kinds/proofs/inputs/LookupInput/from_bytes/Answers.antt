@@ -1,8 +1,0 @@
--- Each field is read by its own reader.
-use Rattle.record.specs.Grid.{decode}
-use Rattle.kinds.specs.Inputs.{lookup_input_of}
-use Rattle.kinds.proofs.inputs.LookupInput.from_bytes.Goals as goal
-
-pub returns : goal.returns
-unfolding lookup_input_of decode
-returns c = cc
