@@ -1,9 +1,7 @@
 -- What each rule of the grid means, as a proposition: the bounds of each field, and the rules that are no range.
 -- `means-..`: the test is true exactly when the proposition holds. Assumes nothing.
-use Rattle.std.specs.Prelude.{◌≡◌, Bool, false, List, [], ◌∷◌, ◌⊎◌, ◌≤◌, nat_abs, get_or}
-use Rattle.std.proofs.Common.{sym, ap, ◌∙◌, to_z}
-use Rattle.std.proofs.lemmas.Bool.{false≢true}
-use Rattle.std.proofs.Math.ListN.{get_or-map}
+use Rattle.std.specs.Prelude.{◌≡◌, ◌⊎◌, ◌≤◌, nat_abs}
+use Rattle.std.proofs.Common.{to_z}
 use Rattle.std.specs.Int.{w32, w64}
 use Rattle.laws.specs.Tests.{Means, means_le, means_eq, means_ne, means_and, means_or, means_iff}
 use Rattle.record.specs.Codes.{completed, tms}
@@ -11,7 +9,7 @@ use Rattle.record.specs.Spelling.{Spelt, means_symbol}
 use Rattle.record.specs.declared.row.Row.{Row}
 use Rattle.rules.specs.Ranges.{Limited, means_limited, money_most, shares_most}
 use Rattle.rules.specs.Signed.{means_near}
-use Rattle.rules.specs.Rules.{fits, obeys}
+use Rattle.rules.specs.Rules.{obeys}
 use Rattle.rules.specs.Rules.{free_shape, broker_shape, customer_shape, tax_rate_shape, customer_rate_shape}
 use Rattle.rules.specs.Rules.{account_shape, security_shape, band_shape, charge_shape, trade_shape}
 use Rattle.rules.specs.Rules.{request_shape, trade_history_shape, lot_shape, summary_shape}

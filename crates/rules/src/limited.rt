@@ -1,13 +1,11 @@
-// The fields of a row against a range for each, and signed numbers against a bound either way from zero.
-ghost use Rattle.std.specs.Prelude.{◌≡◌, ◌<◌};
-ghost use Rattle.std.specs.Int.{w32, w64};
-ghost use Rattle.laws.specs.Tests.{◌⇔◌};
+// The fields of a row against a range for each.
+ghost use Rattle.std.specs.Prelude.{◌≡◌};
 ghost use Rattle.rules.specs.Ranges.{limited, ranges};
-ghost use Rattle.rules.specs.Signed.{near};
 
 use kinds::limits::Limits;
 use record::row::Row;
 
+#[tactic(auto, unfolding(crate::specs::Ranges::limited))]
 pub fn in_limits(r: Row, l: Limits) -> bool
     ensures { result ≡ limited r (ranges l) }
 {
@@ -26,27 +24,4 @@ pub fn in_limits(r: Row, l: Limits) -> bool
         & ((l.m2.0 <= r.m2) & (r.m2 <= l.m2.1))
         & ((l.time.0 <= r.time) & (r.time <= l.time.1))
         & ((l.n5.0 <= r.n5) & (r.n5 <= l.n5.1))
-}
-
-// Both hold, or neither.
-pub fn alike(a: bool, b: bool) -> bool
-    ensures { result ≡ (a ⇔ b) }
-{
-    (a & b) | (!a & !b)
-}
-
-// A signed number of 64 bits is at most so far from zero.
-pub fn near64(x: u64, most: u64) -> bool
-    requires { most < 9223372036854775808 }
-    ensures { result ≡ near w64 x most }
-{
-    (x <= most) | (18446744073709551615 - x < most)
-}
-
-// A signed number of 32 bits is at most so far from zero.
-pub fn near32(x: u32, most: u32) -> bool
-    requires { most < 2147483648 }
-    ensures { result ≡ near w32 x most }
-{
-    (x <= most) | (4294967295 - x < most)
 }
