@@ -26,7 +26,7 @@ abbrev digit : ℕ → ℕ → ℕ → Digit
 digit m x y = record { base = m; mine = x; yours = y }
 
 -- the fields behind the kind, as digits
-abbrev digits : Key → Key → List Digit
+abbrev pub digits : Key → Key → List Digit
 digits a b =
     digit (2 ^ 8) a.form b.form
     ∷ digit (2 ^ 8) a.status b.status

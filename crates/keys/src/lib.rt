@@ -5,7 +5,6 @@
 ghost use Rattle.std.specs.Prelude.{◌≡◌, cond, ltb};
 ghost use Rattle.keys.specs.Key.{key_number, key_of, same_key};
 ghost use Rattle.keys.specs.Marks.{all_keys, marked_by, marks_of, trading_keys};
-ghost use Rattle.record.specs.Symbol.{no_symbol};
 
 use kinds::limits::Marks;
 use kinds::rows::{
@@ -16,7 +15,7 @@ use record::codes::Kind;
 use record::row::Row;
 use record::symbol::Symbol;
 
-#[derive(Clone, Copy)]
+#[derive(Clone, Copy, PartialEq, Eq, PartialOrd, Ord)]
 pub struct Key {
     pub kind: u8,
     pub form: u8,
@@ -29,29 +28,11 @@ pub struct Key {
     pub m2: u64,
 }
 
-// A field where the key has it, else zero.
-fn kept8(named: bool, x: u8) -> u8
-    ensures { result ≡ cond named x 0 }
+// A field where the key has it, else what stands for none.
+pub fn kept<T: Copy>(named: bool, x: T, none: T) -> T
+    ensures { result ≡ cond named x none }
 {
-    if named { x } else { 0 }
-}
-
-pub fn kept32(named: bool, x: u32) -> u32
-    ensures { result ≡ cond named x 0 }
-{
-    if named { x } else { 0 }
-}
-
-pub fn kept64(named: bool, x: u64) -> u64
-    ensures { result ≡ cond named x 0 }
-{
-    if named { x } else { 0 }
-}
-
-pub fn kept_symbol(named: bool, x: Symbol) -> Symbol
-    ensures { result ≡ cond named x no_symbol }
-{
-    if named { x } else { Symbol::NONE }
+    if named { x } else { none }
 }
 
 // The marks of a kind where it is this one, or those before.
@@ -105,58 +86,31 @@ impl Key {
         ensures { result ≡ key_of row }
     {
         let k = row.kind;
-        let symbol = row.symbol;
         let m = marks(k);
         Key {
             kind: k,
-            form: kept8(m.form, row.form),
-            status: kept8(m.status, row.status),
-            flags: kept8(m.flags, row.flags),
-            party: kept32(m.party, row.party),
-            id: kept64(m.id, row.id),
-            symbol: kept_symbol(m.symbol, symbol),
-            n1: kept32(m.n1, row.n1),
-            m2: kept64(m.m2, row.m2),
+            form: kept(m.form, row.form, 0),
+            status: kept(m.status, row.status, 0),
+            flags: kept(m.flags, row.flags, 0),
+            party: kept(m.party, row.party, 0),
+            id: kept(m.id, row.id, 0),
+            symbol: kept(m.symbol, row.symbol, Symbol::NONE),
+            n1: kept(m.n1, row.n1, 0),
+            m2: kept(m.m2, row.m2, 0),
         }
     }
 
+    #[tactic(auto, unfolding(crate::specs::Key::same_key, record::specs::Symbol::same_symbol))]
     pub fn same(self, other: Key) -> bool
         ensures { result ≡ same_key self other }
     {
-        let mine = self.symbol;
-        let yours = other.symbol;
-        (self.kind == other.kind)
-            & (self.form == other.form)
-            & (self.status == other.status)
-            & (self.flags == other.flags)
-            & (self.party == other.party)
-            & (self.id == other.id)
-            & mine.same(yours)
-            & (self.n1 == other.n1)
-            & (self.m2 == other.m2)
+        self == other
     }
 
+    // The fields stand in the order that keys go by.
     pub fn less(self, other: Key) -> bool
         ensures { result ≡ ltb (key_number self) (key_number other) }
     {
-        let mine = self.symbol;
-        let yours = other.symbol;
-        let e1 = self.kind == other.kind;
-        let e2 = e1 & (self.form == other.form);
-        let e3 = e2 & (self.status == other.status);
-        let e4 = e3 & (self.flags == other.flags);
-        let e5 = e4 & (self.party == other.party);
-        let e6 = e5 & (self.id == other.id);
-        let e7 = e6 & mine.same(yours);
-        let e8 = e7 & (self.n1 == other.n1);
-        (self.kind < other.kind)
-            | (e1 & (self.form < other.form))
-            | (e2 & (self.status < other.status))
-            | (e3 & (self.flags < other.flags))
-            | (e4 & (self.party < other.party))
-            | (e5 & (self.id < other.id))
-            | (e6 & mine.less(yours))
-            | (e7 & (self.n1 < other.n1))
-            | (e8 & (self.m2 < other.m2))
+        self < other
     }
 }
