@@ -17,7 +17,7 @@ use kinds::inputs::ResultInput;
 use kinds::rows::Trade;
 use money::sides::traded;
 use reading::terms::Terms;
-use units::{Cents, Price, Shares, Time};
+use units::{Amount, Cents, Price, Shares, Time};
 use upkeep::add;
 use written::{cash_row, history_row, lot_history, new_lot, new_summary, settlement_row};
 

@@ -23,10 +23,12 @@ use hits::gather::submits;
 use hits::judge::entry_at;
 use kinds::inputs::FeedInput;
 use kinds::rows::{Security, Trade, TradeHistory};
+use kinds::typed::Typed;
 use places::place::record_at;
 use record::codes::TradeStatus;
+use record::row::Row;
 use sorted::{Sorted, request_at};
-use units::{Shares, Time, TradeNo};
+use units::{Amount, Shares, Time, TradeNo};
 use upkeep::{add, change};
 
 // The row at a place as a security.
@@ -74,7 +76,7 @@ fn quote(book: &mut [u8], dir: &[u16], t: Totals, entry: FeedInput)
         volume,
         time,
     };
-    change(book, dir, t, at, next.row());
+    change(book, dir, t, at, Row::from(next));
 }
 
 // A trade is submitted, of which there is one.
@@ -88,12 +90,12 @@ fn submit(book: &mut [u8], dir: &mut [u16], t: Totals, time: Time, no: TradeNo) 
         status: TradeStatus::SUBMITTED,
         time,
     };
-    let more = add(book, dir, t, history.row());
+    let more = add(book, dir, t, Row::from(history));
     let at = trade(book, dir, no);
     let mut next = trade_at(book, at);
     next.status = TradeStatus::SUBMITTED;
     next.time = time;
-    change(book, dir, more, at, next.row());
+    change(book, dir, more, at, Row::from(next));
     more
 }
 

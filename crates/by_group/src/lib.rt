@@ -13,10 +13,11 @@ ghost use Rattle.by_group.specs.Kept.{comes_to, lot_kept};
 use directory::typed;
 use groups::sums::{holding, overlapping, rates};
 use kinds::rows::{Customer, Lot, Summary, Trade};
+use kinds::typed::Typed;
 use places::place::part;
 use record::codes::TradeStatus;
 use record::row::Grid;
-use units::Shares;
+use units::{Amount, Shares};
 
 // The band at a place overlaps itself alone.
 pub fn apart(book: &[u8], dir: &[u16], i: usize) -> bool
@@ -48,7 +49,7 @@ pub fn held(book: &[u8], dir: &[u16], p: usize, i: usize) -> bool
     let at = typed::summary(book, dir, l.account, own);
     (t.status == TradeStatus::COMPLETED)
         & (t.account.0 == l.account.0)
-        & symbol.same(own)
+        & (symbol == own)
         & (at < book.len() / Grid::SIZE)
 }
 

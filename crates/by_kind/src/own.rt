@@ -22,6 +22,7 @@ use directory::find::again;
 use directory::typed::{account, security};
 use fields::{fits, fits_beside};
 use kinds::rows::Trade;
+use kinds::typed::Typed;
 use places::place::{part, row_at};
 use record::codes::Kind;
 use record::row::Grid;

@@ -7,6 +7,7 @@ ghost use Rattle.directory.specs.Listed.{Listed};
 
 use directory::typed;
 use kinds::rows::{Account, CustomerRate, Permission};
+use kinds::typed::Typed;
 use places::place::part;
 use record::row::Grid;
 use record::symbol::Symbol;

@@ -12,9 +12,10 @@ ghost use Rattle.by_group.specs.Rules.{as_asked, same_terms};
 
 use directory::typed;
 use kinds::rows::{Account, Cash, LotHistory, Request, Settlement, Trade};
+use kinds::typed::Typed;
 use places::place::{part, record_at};
 use record::codes::TradeStatus;
-use units::{AccountNo, BrokerNo, TradeNo};
+use units::{AccountNo, Amount, BrokerNo, TradeNo};
 
 // The broker of an account, 0 where there is no such account.
 fn broker_of(book: &[u8], dir: &[u16], no: AccountNo) -> BrokerNo
@@ -42,7 +43,7 @@ fn agrees(broker: BrokerNo, t: Trade, q: Request) -> bool
     let own = q.symbol;
     let asked = q.shares;
     (q.trade_type == t.trade_type)
-        & own.same(symbol)
+        & (own == symbol)
         & (asked.plain() == shares.plain())
         & (q.bid.0 == t.bid.0)
         & (q.broker.0 == broker.0)

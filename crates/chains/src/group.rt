@@ -10,8 +10,7 @@ ghost use Rattle.chains.specs.Group.{a_group, bucket_of, group_of, hash_of, key_
 ghost use Rattle.chains.specs.Group.{request_group, spread};
 
 use crate::chain;
-use keys::{Key, kept_symbol, kept32, kept64, marks};
-use record::bytes::wide32;
+use keys::{Key, kept, marks};
 use record::codes::Kind;
 use record::row::Row;
 use record::symbol::Symbol;
@@ -45,7 +44,7 @@ fn hash(group: Key) -> u64
         + wide8(group.status) * 65_536
         + wide8(group.flags) * 16_777_216;
     let mixed = name * 331_315_835
-        + wide32(group.party) * 428_851_817
+        + u64::from(group.party) * 428_851_817
         + spread(group.id)
         + letters(group.symbol);
     mixed % 4_294_967_296
@@ -148,9 +147,9 @@ fn common(row: Row) -> Key
     let m = marks(kind);
     let lot = kind == Kind::LOT;
     let apart = lot | (kind == Kind::REQUEST);
-    let party = kept32(m.party | lot, row.party);
-    let id = kept64(m.id & !apart, row.id);
-    let symbol = kept_symbol(m.symbol | apart, row.symbol);
+    let party = kept(m.party | lot, row.party, 0);
+    let id = kept(m.id & !apart, row.id, 0);
+    let symbol = kept(m.symbol | apart, row.symbol, Symbol::NONE);
     of_fields(kind, 0, 0, 0, party, id, symbol)
 }
 

@@ -11,7 +11,7 @@ use directory::totals::Totals;
 use figures::{Figures, is_cash};
 use kinds::inputs::ResultInput;
 use reading::terms::Terms;
-use units::{Cents, Shares};
+use units::{Amount, Cents, Shares};
 use upkeep::{change, free};
 use written::{account_after, broker_after, summary_after, trade_after};
 

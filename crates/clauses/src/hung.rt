@@ -10,6 +10,7 @@ ghost use Rattle.clauses.specs.Hung.{fits_trade, hangs, offset};
 use by_group::held;
 use by_name::trade::{asked, due, settles};
 use kinds::rows::{Trade, TradeHistory};
+use kinds::typed::Typed;
 use places::place::part;
 use record::codes::Kind;
 

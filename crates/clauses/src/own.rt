@@ -13,6 +13,7 @@ use by_group::{apart, rates_fit, summed};
 use by_name::names::{granted, rated, served, traded};
 use by_name::trade::done;
 use kinds::rows::Summary;
+use kinds::typed::Typed;
 use places::place::part;
 use record::codes::Kind;
 

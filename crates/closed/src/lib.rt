@@ -20,7 +20,7 @@ use directory::totals::Totals;
 use kinds::rows::{Lot, Trade};
 use money::sides::remaining;
 use sorted::lot_at;
-use units::Shares;
+use units::{Amount, Shares};
 use upkeep::{add, change, free};
 use walk::Walk;
 use written::{lot_after, lot_history};

@@ -8,6 +8,7 @@ ghost use Rattle.model.specs.Tally.{in_square, tallied, tally};
 ghost use Rattle.places.specs.Rows.{row_at};
 
 use kinds::rows::Trade;
+use kinds::typed::Typed;
 use places::count::bit;
 use places::place::part;
 use record::codes::{Kind, TradeStatus, TradeType};

@@ -28,7 +28,7 @@ fn has(m: Marks, key: Key, row: Row) -> bool
         & (!m.flags | (row.flags == key.flags))
         & (!m.party | (row.party == key.party))
         & (!m.id | (row.id == key.id))
-        & (!m.symbol | own.same(asked))
+        & (!m.symbol | (own == asked))
         & (!m.n1 | (row.n1 == key.n1))
         & (!m.m2 | (row.m2 == key.m2))
 }

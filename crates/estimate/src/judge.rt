@@ -11,6 +11,7 @@ use kinds::limits::Ranges;
 use model::Status;
 use record::codes::TradeType;
 use reply::{also, also_rated};
+use units::Amount;
 
 // The rows that an order adds: a trade and its history, and a request for types 3 to 5.
 #[tactic(auto, using(crate::specs::Judge::two_added, crate::specs::Judge::three_added))]

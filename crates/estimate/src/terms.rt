@@ -16,6 +16,7 @@ use groups::band;
 use groups::sums::tax_rates;
 use kinds::inputs::OrderInput;
 use kinds::rows::{Account, Charge, Customer, Security};
+use kinds::typed::Typed;
 use model::BandAnswer;
 use places::place::record_at;
 use record::symbol::Symbol;

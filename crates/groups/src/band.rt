@@ -11,11 +11,12 @@ use chains::chain::next;
 use chains::group;
 use directory::build::places;
 use kinds::rows::Band;
+use kinds::typed::Typed;
 use model::BandAnswer;
 use places::place::{part, record_at};
 use record::codes::Kind;
 use record::row::Grid;
-use units::{PerTenThousand, Shares};
+use units::{Amount, PerTenThousand, Shares};
 
 // The record at a place is the band that holds the shares.
 fn holds(book: &[u8], form: u8, tier: u8, exchange: u8, shares: Shares, at: usize) -> bool

@@ -10,6 +10,7 @@ ghost use Rattle.directory.specs.Listed.{Listed};
 use crate::turn::{first_of, next_of};
 use chains::group;
 use kinds::rows::Lot;
+use kinds::typed::Typed;
 use places::place::part;
 use record::codes::Kind;
 use record::row::Grid;
@@ -21,7 +22,7 @@ pub fn in_holding(account: AccountNo, symbol: Symbol, lot: Lot) -> bool
     ensures { result ≡ (eqb lot.account.0 account.0 && same_symbol lot.symbol symbol) }
 {
     let own = lot.symbol;
-    (lot.account.0 == account.0) & own.same(symbol)
+    (lot.account.0 == account.0) & (own == symbol)
 }
 
 // The record at a place is a lot of an account and symbol.

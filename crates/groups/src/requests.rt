@@ -9,6 +9,7 @@ ghost use Rattle.groups.specs.Sums.{request_on};
 use crate::turn::{first_of, next_of};
 use chains::group;
 use kinds::rows::Request;
+use kinds::typed::Typed;
 use places::place::part;
 use record::codes::Kind;
 use record::row::Grid;
@@ -22,7 +23,7 @@ pub fn asked(book: &[u8], symbol: Symbol, at: usize) -> bool
     let record = part(book, at);
     let request = Request::from_bytes(record);
     let own = request.symbol;
-    (record[Grid::KIND] == Kind::REQUEST) & own.same(symbol)
+    (record[Grid::KIND] == Kind::REQUEST) & (own == symbol)
 }
 
 // The place of the first request, the number of places where there is none.

@@ -16,13 +16,13 @@ use chains::group;
 use directory::typed::tax_rate;
 use kinds::limits::Ranges;
 use kinds::rows::{Band, CustomerRate, Lot, TaxRate};
+use kinds::typed::Typed;
 use places::count::bit;
 use places::place::{part, record_at};
-use record::bytes::wide32;
 use record::codes::Kind;
 use record::row::Grid;
 use record::symbol::Symbol;
-use units::{AccountNo, CustomerNo, PerHundredThousand, Shares};
+use units::{AccountNo, Amount, CustomerNo, PerHundredThousand, Shares};
 
 // Two bands have shares in common.
 fn overlap(a: Band, b: Band) -> bool
@@ -74,7 +74,7 @@ impl RateSum {
         requires { self.0 + more.0 < 2 ^ 64 }
         ensures { result.0 ≡ self.0 + more.0 }
     {
-        RateSum(self.0 + wide32(more.0))
+        RateSum(self.0 + u64::from(more.0))
     }
 
     // At most 100 percent.

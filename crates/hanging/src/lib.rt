@@ -23,6 +23,7 @@ use clauses::hung::{fits_trade, index, offset};
 use directory::typed::trade;
 use fields::fits_beside;
 use kinds::rows::Trade;
+use kinds::typed::Typed;
 use places::place::{part, row_at};
 use record::codes::{Kind, TradeStatus, TradeType};
 use record::row::Grid;

@@ -23,6 +23,7 @@ use directory::typed::security;
 use kinds::inputs::FeedInput;
 use kinds::limits::Ranges;
 use kinds::rows::{Request, Security};
+use kinds::typed::Typed;
 use model::Status;
 use places::place::record_at;
 use record::codes::TradeType;
@@ -30,7 +31,7 @@ use record::row::Grid;
 use record::symbol::Symbol;
 use reply::also;
 use sorted::request_at;
-use units::Shares;
+use units::{Amount, Shares};
 
 // The entry at a place of the input.
 pub fn entry_at(input: &[u8], i: usize) -> FeedInput
@@ -51,7 +52,7 @@ pub fn hits(entry: FeedInput, request: Request) -> bool
     let above = (form == TradeType::TLS) & (bid <= price);
     let own = request.symbol;
     let other = entry.symbol;
-    own.same(other) & (below | above)
+    (own == other) & (below | above)
 }
 
 // One of the first k entries hits the request.
@@ -112,7 +113,7 @@ fn shares_at(input: &[u8], symbol: Symbol, i: usize) -> Shares
 {
     let entry = entry_at(input, i);
     let own = entry.symbol;
-    if own.same(symbol) {
+    if (own == symbol) {
         entry.shares
     } else {
         Shares(0)

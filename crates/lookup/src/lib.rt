@@ -14,6 +14,7 @@ ghost use Rattle.lookup.specs.Fill.{Answers, all_known, asked};
 
 use directory::typed::{settlement, trade};
 use kinds::inputs::LookupInput;
+use kinds::typed::Typed;
 use model::Status;
 use places::place::part;
 use places::put::put_from;

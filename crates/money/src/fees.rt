@@ -11,7 +11,7 @@ ghost use Rattle.money.specs.Amounts.{UpTo, value_most};
 use crate::parts::{part, times};
 use kinds::limits::Ranges;
 use model::BandAnswer;
-use units::{Cents, PerHundredThousand, PerTenThousand, Price, Shares};
+use units::{Amount, Cents, PerHundredThousand, PerTenThousand, Price, Shares};
 
 pub fn value(shares: Shares, price: Price) -> Cents
     requires { (up shares.0 ≤ shares_most) × (price.0 ≤ price_most) }

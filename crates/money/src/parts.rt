@@ -7,7 +7,7 @@ ghost use Rattle.rules.specs.Ranges.{fee, tax_whole};
 ghost use Rattle.model.specs.Money.{rounded};
 ghost use Rattle.money.specs.Amounts.{UpTo, value_most};
 
-use units::Cents;
+use units::{Amount, Cents};
 
 pub fn plus(a: u64, b: u64) -> u64
     requires { a + b < 2 ^ 62 }

@@ -7,7 +7,7 @@ ghost use Rattle.model.specs.Money.{settlement_of};
 ghost use Rattle.money.specs.Amounts.{UpTo, value_most};
 
 use crate::sides::buys;
-use units::Cents;
+use units::{Amount, Cents};
 
 // The tax that is taken: tax status 2 only records it.
 fn withheld(tax_status: u8, tax: Cents) -> Cents

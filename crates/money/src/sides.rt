@@ -8,7 +8,7 @@ ghost use Rattle.model.specs.Result.{signed};
 ghost use Rattle.money.specs.Amounts.{UpTo};
 
 use record::codes::TradeType;
-use units::Shares;
+use units::{Amount, Shares};
 
 pub fn buys(trade_type: u8) -> bool
     ensures { result ≡ buys trade_type }

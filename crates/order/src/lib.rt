@@ -18,6 +18,7 @@ use estimate::figures::estimated;
 use estimate::judge::judge;
 use estimate::terms::terms_of;
 use kinds::inputs::OrderInput;
+use kinds::typed::Typed;
 use places::put::put;
 use reply::{Ended, done};
 

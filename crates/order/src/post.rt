@@ -16,7 +16,7 @@ use places::place::nothing;
 use record::codes::{Kind, TradeStatus, TradeType};
 use record::row::Row;
 use record::symbol::Symbol;
-use units::{Cents, Price};
+use units::{Amount, Cents, Price};
 use upkeep::add;
 
 // An order at the market's price is submitted; any other waits.
@@ -56,7 +56,7 @@ fn trade_row(input: OrderInput, terms: Terms, estimate: Estimate) -> Row
         tax: Cents(0),
         time,
     };
-    trade.row()
+    Row::from(trade)
 }
 
 fn history_row(input: OrderInput, terms: Terms) -> Row
@@ -69,7 +69,7 @@ fn history_row(input: OrderInput, terms: Terms) -> Row
         status: first_status(input),
         time,
     };
-    history.row()
+    Row::from(history)
 }
 
 fn request_row(input: OrderInput, terms: Terms, estimate: Estimate) -> Row
@@ -88,7 +88,7 @@ fn request_row(input: OrderInput, terms: Terms, estimate: Estimate) -> Row
         shares,
         bid,
     };
-    request.row()
+    Row::from(request)
 }
 
 // The answer of an order that is done, posted or rolled back.

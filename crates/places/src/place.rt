@@ -5,7 +5,7 @@ ghost use Rattle.model.specs.Rows.{nothing, places, record_size};
 ghost use Rattle.places.specs.Rows.{row_at};
 
 use kinds::rows::Blank;
-use record::row::{Grid, Row, copy, places};
+use record::row::{Grid, Row, places};
 
 // The row of a free record.
 pub fn nothing() -> Row
@@ -39,7 +39,7 @@ pub fn record_at(book: &[u8], i: usize) -> [u8; Grid::SIZE]
 {
     let mut r = [0u8; Grid::SIZE];
     if i < places(book) {
-        copy(&mut r, part(book, i));
+        r.copy_from_slice(part(book, i));
     }
     r
 }

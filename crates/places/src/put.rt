@@ -4,7 +4,7 @@ ghost use Rattle.model.specs.Rows.{places, rows};
 ghost use Rattle.places.specs.Rows.{put_at, row_at};
 
 use crate::place::record_at;
-use record::row::{Grid, Row, copy};
+use record::row::{Grid, Row};
 
 // The row at a place of the book; past the end nothing is written.
 pub fn put(book: &mut [u8], i: usize, row: Row)
@@ -29,5 +29,5 @@ pub fn put_from(area: &mut [u8], i: usize, book: &[u8], p: usize)
     let record = record_at(book, p);
     let start = i * Grid::SIZE;
     let end = start + Grid::SIZE;
-    copy(&mut area[start..end], &record);
+    area[start..end].copy_from_slice(&record);
 }

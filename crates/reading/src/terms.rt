@@ -17,6 +17,7 @@ use groups::band;
 use groups::sums::tax_rates;
 use kinds::inputs::ResultInput;
 use kinds::rows::{Account, Broker, Customer, Security, Summary, Trade};
+use kinds::typed::Typed;
 use model::BandAnswer;
 use places::place::record_at;
 use record::symbol::Symbol;

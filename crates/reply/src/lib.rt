@@ -13,7 +13,6 @@ use directory::totals::Totals;
 use model::{BandAnswer, Status};
 use places::place::nothing;
 use places::put::put;
-use record::bytes::bits32;
 use record::row::Row;
 
 // How an inner call ends: its status, and the totals of the book that it leaves.
@@ -57,7 +56,7 @@ fn refusal(s: Status) -> Row
     ensures { result ≡ refusal s }
 {
     let mut row = nothing();
-    row.n5 = bits32(code(s));
+    row.n5 = code(s).cast_unsigned();
     row
 }
 

@@ -20,6 +20,7 @@ use directory::totals::Totals;
 use figures::{Figures, reckoned};
 use kinds::inputs::ResultInput;
 use kinds::rows::Trade;
+use kinds::typed::Typed;
 use places::put::put;
 use reading::lots::lots_of;
 use reading::terms::terms_of;

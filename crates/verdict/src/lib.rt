@@ -12,11 +12,9 @@ use kinds::limits::Ranges;
 use kinds::rows::Broker;
 use model::Status;
 use reading::terms::Terms;
-use record::bytes::bits64;
 use record::codes::TradeStatus;
 use reply::{also, also_rated};
-use rules::limited::near64;
-use units::{Cents, Shares};
+use units::{Amount, Cents, Shares};
 
 // The most trades and the highest commission total of a broker.
 #[derive(Clone, Copy)]
@@ -31,7 +29,7 @@ impl Most {
 fn near(balance: Cents) -> bool
     ensures { result ≡ leb (nat_abs balance.0) money_most }
 {
-    near64(bits64(balance.0), Ranges::MONEY_MOST)
+    balance.size() <= Ranges::MONEY_MOST
 }
 
 // The balance, the broker's trades and its commission total stay in their ranges.

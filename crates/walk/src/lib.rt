@@ -14,7 +14,7 @@ ghost use Rattle.walk.specs.Walk.{Within, begun, rest_of, stepped, taken_of};
 use kinds::rows::Lot;
 use money::fees::value;
 use money::sides::buys;
-use units::{Cents, Price, Shares};
+use units::{Amount, Cents, Price, Shares};
 
 fn either(first: bool, a: Price, b: Price) -> Price
     ensures { result.0 ≡ cond first a.0 b.0 }

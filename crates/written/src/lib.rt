@@ -22,7 +22,7 @@ use places::place::nothing;
 use record::codes::{Kind, TradeStatus};
 use record::row::Row;
 use record::symbol::Symbol;
-use units::{Cents, Price, Shares, Time, TradeNo};
+use units::{Amount, Cents, Price, Shares, Time, TradeNo};
 
 pub fn lot_history(lot: TradeNo, by: TradeNo, before: Shares, after: Shares) -> Row
     requires { (nat_abs before.0 ≤ shares_most) × (nat_abs after.0 ≤ shares_most) }
@@ -34,7 +34,7 @@ pub fn lot_history(lot: TradeNo, by: TradeNo, before: Shares, after: Shares) -> 
         before,
         after,
     };
-    history.row()
+    Row::from(history)
 }
 
 pub fn new_lot(trade: Trade, price: Price, shares: Shares, time: Time) -> Row
@@ -51,7 +51,7 @@ pub fn new_lot(trade: Trade, price: Price, shares: Shares, time: Time) -> Row
         shares,
         time,
     };
-    lot.row()
+    Row::from(lot)
 }
 
 pub fn new_summary(trade: Trade, shares: Shares) -> Row
@@ -64,7 +64,7 @@ pub fn new_summary(trade: Trade, shares: Shares) -> Row
         symbol,
         shares,
     };
-    summary.row()
+    Row::from(summary)
 }
 
 pub fn history_row(trade: Trade, time: Time) -> Row
@@ -76,7 +76,7 @@ pub fn history_row(trade: Trade, time: Time) -> Row
         status: TradeStatus::COMPLETED,
         time,
     };
-    history.row()
+    Row::from(history)
 }
 
 // Of the trade's flags it keeps cash alone.
@@ -91,7 +91,7 @@ pub fn settlement_row(trade: Trade, amount: Cents, time: Time) -> Row
         amount,
         due: Time(time.0 + Ranges::SETTLEMENT_SECONDS),
     };
-    settlement.row()
+    Row::from(settlement)
 }
 
 pub fn cash_row(trade: Trade, amount: Cents, time: Time) -> Row
@@ -99,7 +99,7 @@ pub fn cash_row(trade: Trade, amount: Cents, time: Time) -> Row
 {
     let no = trade.no;
     let cash = Cash { no, amount, time };
-    cash.row()
+    Row::from(cash)
 }
 
 pub fn trade_after(trade: Trade, input: ResultInput, commission: Cents, tax: Cents) -> Row
@@ -115,7 +115,7 @@ pub fn trade_after(trade: Trade, input: ResultInput, commission: Cents, tax: Cen
     t.commission = commission;
     t.tax = tax;
     t.time = time;
-    t.row()
+    Row::from(t)
 }
 
 pub fn broker_after(broker: Broker, commission: Cents) -> Row
@@ -128,7 +128,7 @@ pub fn broker_after(broker: Broker, commission: Cents) -> Row
     let mut b = broker;
     b.trades += 1;
     b.commission = sum;
-    b.row()
+    Row::from(b)
 }
 
 pub fn account_after(account: Account, balance: Cents) -> Row
@@ -136,7 +136,7 @@ pub fn account_after(account: Account, balance: Cents) -> Row
 {
     let mut a = account;
     a.balance = balance;
-    a.row()
+    Row::from(a)
 }
 
 pub fn summary_after(summary: Summary, shares: Shares) -> Row
@@ -144,7 +144,7 @@ pub fn summary_after(summary: Summary, shares: Shares) -> Row
 {
     let mut s = summary;
     s.shares = shares;
-    s.row()
+    Row::from(s)
 }
 
 pub fn lot_after(lot: Lot, shares: Shares) -> Row
@@ -152,7 +152,7 @@ pub fn lot_after(lot: Lot, shares: Shares) -> Row
 {
     let mut l = lot;
     l.shares = shares;
-    l.row()
+    Row::from(l)
 }
 
 pub fn answer_row(trade: Trade, figures: Figures) -> Row
