@@ -5,6 +5,7 @@ ghost use Rattle.model.specs.Rows.{nothing, places, record_size};
 ghost use Rattle.places.specs.Rows.{row_at};
 
 use kinds::rows::Blank;
+use kinds::typed::Typed;
 use record::row::{Grid, Row, places};
 
 // The row of a free record.
@@ -42,4 +43,11 @@ pub fn record_at(book: &[u8], i: usize) -> [u8; Grid::SIZE]
         r.copy_from_slice(part(book, i));
     }
     r
+}
+
+// The record at a place as a value of a kind; past the end, that of a free record.
+pub fn typed_at<T: Typed>(book: &[u8], i: usize) -> T
+    ensures { result ≡ T.of_row (row_at book.now i) }
+{
+    T::from_bytes(&record_at(book, i))
 }

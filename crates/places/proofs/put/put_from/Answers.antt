@@ -9,8 +9,8 @@ pub returns : goal.returns
 returns c =
     let area = c.args.area.now in
     let i = c.args.i in
-    let put = c.copy.new.to in
-    let same = c.copy.ensures in
+    let put = c.copy_from_slice.new.self in
+    let same = c.copy_from_slice.ensures.after in
     let whole = c.record_at-record.ensures in
     let bytes = bytes_put (i * 64) (i * 64 + 64 - i * 64) put area (λ j. (c.type_inv.area j).fits) in
     rw add-sub_cancel_left
