@@ -17,7 +17,7 @@ change-requires-clause-row_value c =
     let fits = c.requires.shares_bound in
     let is =
     quote_is b e there p fits (c.requires.ready.written _) c.security_at-was.ensures refl refl c.sum-volume.ensures
-    c.row.ensures
+    c.from.ensures
     in
     quote_stays b e there p fits is
 
@@ -30,7 +30,7 @@ returns c =
     let fits = c.requires.shares_bound in
     let is =
     quote_is b e there p fits (c.requires.ready.written _) c.security_at-was.ensures refl refl c.sum-volume.ensures
-    c.row.ensures
+    c.from.ensures
     in
     let all =
     quoted b e there p fits is c.requires.ready c.change.ensures.book_after c.change.ensures.directory_2

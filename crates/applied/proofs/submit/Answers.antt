@@ -5,7 +5,7 @@ use Rattle.applied.proofs.submit.Goals as goal
 
 pub add-more-requires-clause-le_free : goal.add-more-requires-clause-le_free
 add-more-requires-clause-le_free c =
-    (c.requires.ready.1, history_live _ _ (history_is c.args.no c.args.time c.row.ensures))
+    (c.requires.ready.1, history_live _ _ (history_is c.args.no c.args.time c.from.ensures))
 
 pub change-requires-clause-row_value : goal.change-requires-clause-row_value
 change-requires-clause-row_value c =
@@ -14,10 +14,10 @@ change-requires-clause-row_value c =
     let ready = c.requires.ready.0 in
     let room = c.requires.ready.1 in
     let there = c.requires.book_value in
-    let h = history_is c.args.no c.args.time c.row.ensures in
+    let h = history_is c.args.no c.args.time c.from.ensures in
     let p = c.trade-at.ensures in
     let a = c.add-more.ensures in
-    let is = sent_is ready room time i there h (a.fact, (a.directory_2, a.free_value)) p c.trade_at-next.ensures refl c.row-2.ensures in
+    let is = sent_is ready room time i there h (a.fact, (a.directory_2, a.free_value)) p c.trade_at-next.ensures refl c.from-2.ensures in
     sent_stays ready room time i there h (a.fact, (a.directory_2, a.free_value)) p is
 
 pub returns : goal.returns
@@ -27,8 +27,8 @@ returns c =
     let ready = c.requires.ready.0 in
     let room = c.requires.ready.1 in
     let there = c.requires.book_value in
-    let h = history_is c.args.no c.args.time c.row.ensures in
+    let h = history_is c.args.no c.args.time c.from.ensures in
     let p = c.trade-at.ensures in
     let a = c.add-more.ensures in
-    let is = sent_is ready room time i there h (a.fact, (a.directory_2, a.free_value)) p c.trade_at-next.ensures refl c.row-2.ensures in
+    let is = sent_is ready room time i there h (a.fact, (a.directory_2, a.free_value)) p c.trade_at-next.ensures refl c.from-2.ensures in
     sent_one ready room time i there h (a.fact, (a.directory_2, a.free_value)) p is c.change.ensures.book_after c.change.ensures.directory_2

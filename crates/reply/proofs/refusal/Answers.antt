@@ -5,4 +5,4 @@ use Rattle.reply.proofs.refusal.Goals as goal
 
 pub returns : goal.returns
 unfolding refusal
-returns c = rw (c.nothing-row.ensures, c.bits32.ensures, number_back c.code.result c.args.s c.code.ensures)
+returns c = rw (c.nothing-row.ensures, c.cast_unsigned.ensures, number_back c.code.result c.args.s c.code.ensures)

@@ -4,4 +4,4 @@ use Rattle.written.proofs.account_after.Goals as goal
 
 pub returns : goal.returns
 unfolding account_row
-returns c = rw c.row.ensures
+returns c = rw c.from.ensures

@@ -10,7 +10,7 @@ returns c =
     let v = c.args in
     let pre = c.requires.up_to in
     rw (
-      c.row.ensures,
+      c.from.ensures,
       c.plus-sum.ensures.value,
       sum_bits v.broker.commission.0 v.commission.0 pre.0 pre.1 (omega arith),
     )

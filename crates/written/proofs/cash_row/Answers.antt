@@ -4,4 +4,4 @@ use Rattle.written.proofs.cash_row.Goals as goal
 
 pub returns : goal.returns
 unfolding cash_row trade_row
-returns c = rw c.row.ensures
+returns c = rw c.from.ensures

@@ -4,4 +4,4 @@ use Rattle.written.proofs.history_row.Goals as goal
 
 pub returns : goal.returns
 unfolding trade_history_row trade_row
-returns c = rw c.row.ensures
+returns c = rw c.from.ensures

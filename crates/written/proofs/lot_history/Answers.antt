@@ -6,4 +6,4 @@ use Rattle.written.proofs.lot_history.Goals as goal
 pub returns : goal.returns
 unfolding lot_history_row
 returns c =
-    rw (c.row.ensures, low_bits c.args.before.0 c.requires.0, low_bits c.args.after.0 c.requires.1)
+    rw (c.from.ensures, low_bits c.args.before.0 c.requires.0, low_bits c.args.after.0 c.requires.1)

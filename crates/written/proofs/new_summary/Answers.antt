@@ -4,4 +4,4 @@ use Rattle.written.proofs.new_summary.Goals as goal
 
 pub returns : goal.returns
 unfolding summary_row trade_row
-returns c = rw c.row.ensures
+returns c = rw c.from.ensures

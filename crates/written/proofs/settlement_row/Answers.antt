@@ -6,4 +6,4 @@ use Rattle.written.proofs.settlement_row.Goals as goal
 
 pub returns : goal.returns
 unfolding settlement_row trade_row
-returns c = rw (c.row.ensures, ← cash_flag_holds c.args.trade.flags)
+returns c = rw (c.from.ensures, ← cash_flag_holds c.args.trade.flags)

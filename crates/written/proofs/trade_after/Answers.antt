@@ -8,7 +8,7 @@ pub returns : goal.returns
 unfolding trade_row
 returns c =
     rw (
-      c.row.ensures,
+      c.from.ensures,
       amount_bits c.args.commission.0 c.requires.0 (omega arith),
       amount_bits c.args.tax.0 c.requires.1 (omega arith),
     )

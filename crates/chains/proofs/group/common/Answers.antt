@@ -6,5 +6,5 @@ use Rattle.chains.proofs.group.common.Goals as goal
 pub returns : goal.returns
 returns c =
     c.of_fields.ensures
-    ∙ common_group c.args.row c.requires c.marks-m.ensures c.kept32-party.ensures c.kept64-id.ensures
-    c.kept_symbol-symbol.ensures
+    ∙ common_group c.args.row c.requires c.marks-m.ensures c.kept-party.ensures c.kept-id.ensures
+    c.kept-symbol.ensures

@@ -4,4 +4,4 @@ use Rattle.order.proofs.post.history_row.Goals as goal
 
 pub returns : goal.returns
 unfolding history_of
-returns c = rw (c.row.ensures, c.first_status.ensures)
+returns c = rw (c.from.ensures, c.first_status.ensures)

@@ -4,4 +4,4 @@ use Rattle.order.proofs.post.request_row.Goals as goal
 
 pub returns : goal.returns
 unfolding request_of
-returns c = c.row.ensures
+returns c = c.from.ensures

@@ -4,4 +4,4 @@ use Rattle.order.proofs.post.trade_row.Goals as goal
 
 pub returns : goal.returns
 unfolding trade_of
-returns c = rw (c.row.ensures, c.first_status.ensures)
+returns c = rw (c.from.ensures, c.first_status.ensures)
