@@ -64,7 +64,7 @@ fn rows_added(terms: Terms, figures: Figures) -> usize
 }
 
 // The checks of the rules, one after the other, in a book with so many free places.
-#[tactic(auto, using(reply::specs::Ending::also_refused), unfolding(crate::specs::Judge::judgment))]
+#[tactic(auto, using(reply::specs::Ending::stays), unfolding(crate::specs::Judge::judgment))]
 pub fn judge(free: usize, terms: Terms, figures: Figures) -> Result<(), Status>
     requires { (up figures.commission.0 ≤ fee.high) × (figures.walk.closed ≤ most_records) }
     ensures value { ended result ≡ judgment terms figures free }
