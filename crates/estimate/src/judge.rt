@@ -1,8 +1,10 @@
 // What an order is refused for, in the order of checking.
 ghost use Rattle.std.specs.Prelude.{◌≡◌};
 ghost use Rattle.model.specs.Plan.{verdict};
+ghost use Rattle.reply.specs.Ending.{Refuses, ended};
 ghost use Rattle.estimate.specs.Judge.{judged, own_checks, rows_added};
 
+use units::Amount;
 use crate::figures::Estimate;
 use crate::terms::Terms;
 use directory::totals::Totals;
@@ -10,8 +12,7 @@ use kinds::inputs::OrderInput;
 use kinds::limits::Ranges;
 use model::Status;
 use record::codes::TradeType;
-use reply::{also, also_rated};
-use units::Amount;
+use reply::{check, rated};
 
 // The rows that an order adds: a trade and its history, and a request for types 3 to 5.
 #[tactic(auto, using(crate::specs::Judge::two_added, crate::specs::Judge::three_added))]
@@ -26,25 +27,26 @@ fn rows_added(input: OrderInput) -> usize
 }
 
 // The checks of an order alone.
-#[tactic(auto, using(crate::specs::Judge::own_judged))]
-fn own_checks(terms: Terms, estimate: Estimate) -> Status
-    ensures { result ≡ verdict (own_checks terms estimate) }
+#[tactic(auto, using(reply::specs::Ending::stays), unfolding(model::specs::Plan::verdict, laws::specs::Search::run))]
+fn own_checks(terms: Terms, estimate: Estimate) -> Result<(), Status>
+    ensures value { ended result ≡ verdict (own_checks terms estimate) }
+    ensures refusal { Refuses result }
 {
-    let band = terms.band;
-    let s1 = also(Status::Done, terms.holder.known, Status::OrderNoAccount);
-    let s2 = also(s1, terms.permitted, Status::OrderNotPermitted);
-    let s3 = also(s2, terms.paper.known, Status::OrderNoSecurity);
-    let s4 = also(s3, !estimate.untaxed, Status::OrderNoTax);
-    let s5 = also_rated(s4, band, Status::OrderNoRate, Status::OrderNoBand);
-    also(s5, 1 <= terms.charge.plain(), Status::OrderNoCharge)
+    check(terms.holder.known, Status::OrderNoAccount)?;
+    check(terms.permitted, Status::OrderNotPermitted)?;
+    check(terms.paper.known, Status::OrderNoSecurity)?;
+    check(!estimate.untaxed, Status::OrderNoTax)?;
+    rated(terms.band, Status::OrderNoRate, Status::OrderNoBand)?;
+    check(1 <= terms.charge.plain(), Status::OrderNoCharge)
 }
 
 // The checks of the rules, one after the other.
-#[tactic(auto, unfolding(crate::specs::Judge::judged))]
-pub fn judge(t: Totals, input: OrderInput, terms: Terms, estimate: Estimate) -> Status
-    ensures { result ≡ judged t.free input terms estimate }
+#[tactic(auto, using(reply::specs::Ending::stays), unfolding(crate::specs::Judge::judged))]
+pub fn judge(t: Totals, input: OrderInput, terms: Terms, estimate: Estimate) -> Result<(), Status>
+    ensures value { ended result ≡ judged t.free input terms estimate }
+    ensures refusal { Refuses result }
 {
-    let s = own_checks(terms, estimate);
-    let within = also(s, terms.number.0 <= Ranges::TRADE_NO.1, Status::OverLimit);
-    also(within, rows_added(input) <= t.free, Status::NoRoom)
+    own_checks(terms, estimate)?;
+    check(terms.number.0 <= Ranges::TRADE_NO.1, Status::OverLimit)?;
+    check(rows_added(input) <= t.free, Status::NoRoom)
 }

@@ -2,46 +2,29 @@
 // the book here.
 #![tactic(auto)]
 
-ghost use Rattle.std.specs.Prelude.{◌≡◌, true};
-ghost use Rattle.model.specs.Status.{is_done};
+ghost use Rattle.std.specs.Prelude.{◌≡◌, IfOk};
+ghost use Rattle.reply.specs.Ending.{Refuses, ended};
 ghost use Rattle.opening.specs.Opening.{Opened, Room, opening};
 
 use directory::build::build;
 use directory::totals::Totals;
 use kinds::limits::Ranges;
 use model::Status;
-use reply::Ended;
+use reply::check;
 use sound::whole::{sound_by, whole};
-use units::TradeNo;
-
-// No book is left by a check that fails, so its totals are of no use.
-fn refused(status: Status) -> Ended
-    ensures { result.status ≡ status }
-{
-    let totals = Totals {
-        free: 0,
-        largest: TradeNo(0),
-    };
-    Ended { status, totals }
-}
 
 // The checks of every call: the book's length, its soundness and the input's fields. Where they find no fault the
 // directory is the book's.
-pub fn opened(book: &[u8], inputs: bool, dir: &mut [u16]) -> Ended
+#[tactic(auto, using(crate::specs::Opening::few), unfolding(crate::specs::Opening::opening))]
+pub fn opened(book: &[u8], inputs: bool, dir: &mut [u16]) -> Result<Totals, Status>
     requires { Room book.now dir.old }
-    ensures status_value { result.status ≡ opening inputs book.now }
-    ensures opened { is_done result.status ≡ true → Opened inputs book.now dir.new result.totals }
+    ensures status_value { ended result ≡ opening inputs book.now }
+    ensures opened { IfOk result (λ totals. Opened inputs book.now dir.new totals) }
+    ensures refusal { Refuses result }
 {
-    if !whole(book.len(), Ranges::RECORDS) {
-        return refused(Status::BadBook);
-    }
+    check(whole(book.len(), Ranges::RECORDS), Status::BadBook)?;
     let totals = build(book, dir);
-    if !sound_by(book, dir) {
-        return refused(Status::Unsound);
-    }
-    if !inputs {
-        return refused(Status::BadInput);
-    }
-    let status = Status::Done;
-    Ended { status, totals }
+    check(sound_by(book, dir), Status::Unsound)?;
+    check(inputs, Status::BadInput)?;
+    Ok(totals)
 }

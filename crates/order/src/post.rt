@@ -30,6 +30,7 @@ fn first_status(input: OrderInput) -> u8
 }
 
 // Its flags are cash and LIFO: roll back is the order's alone.
+#[tactic(auto, unfolding(crate::specs::Post::trade_of))]
 fn trade_row(input: OrderInput, terms: Terms, estimate: Estimate) -> Row
     ensures { result ≡ trade_of input terms estimate }
 {
@@ -59,6 +60,7 @@ fn trade_row(input: OrderInput, terms: Terms, estimate: Estimate) -> Row
     Row::from(trade)
 }
 
+#[tactic(auto, unfolding(crate::specs::Post::history_of))]
 fn history_row(input: OrderInput, terms: Terms) -> Row
     ensures { result ≡ history_of input terms }
 {
@@ -72,6 +74,7 @@ fn history_row(input: OrderInput, terms: Terms) -> Row
     Row::from(history)
 }
 
+#[tactic(auto, unfolding(crate::specs::Post::request_of))]
 fn request_row(input: OrderInput, terms: Terms, estimate: Estimate) -> Row
     ensures { result ≡ request_of input terms estimate }
 {
@@ -92,6 +95,7 @@ fn request_row(input: OrderInput, terms: Terms, estimate: Estimate) -> Row
 }
 
 // The answer of an order that is done, posted or rolled back.
+#[tactic(auto, unfolding(crate::specs::Post::answer_of))]
 pub fn answer_row(terms: Terms, estimate: Estimate) -> Row
     ensures { result ≡ answer_of terms estimate }
 {

@@ -5,6 +5,7 @@ ghost use Rattle.std.specs.Prelude.{cond, ◌≡◌, ◌≤◌, leb, nat_abs};
 ghost use Rattle.record.specs.Signed.{up};
 ghost use Rattle.rules.specs.Ranges.{fee, money_most};
 ghost use Rattle.model.specs.Rows.{most_records};
+ghost use Rattle.reply.specs.Ending.{Refuses, ended};
 ghost use Rattle.verdict.specs.Judge.{in_range, judgment, own_rows, rows_added};
 
 use figures::{Figures, is_cash};
@@ -13,7 +14,7 @@ use kinds::rows::Broker;
 use model::Status;
 use reading::terms::Terms;
 use record::codes::TradeStatus;
-use reply::{also, also_rated};
+use reply::{check, rated};
 use units::{Amount, Cents, Shares};
 
 // The most trades and the highest commission total of a broker.
@@ -26,6 +27,7 @@ impl Most {
     const TOTAL: u64 = Broker::LIMITS.m1.1;
 }
 
+#[tactic(auto, using(crate::specs::Judge::near_is, record::specs::Signed::got64))]
 fn near(balance: Cents) -> bool
     ensures { result ≡ leb (nat_abs balance.0) money_most }
 {
@@ -42,21 +44,13 @@ fn in_range(broker: Broker, balance: Cents, commission: Cents) -> bool
     near(balance) & (broker.trades < Most::TRADES) & (total.plain() <= most)
 }
 
-fn either(test: bool, a: usize, b: usize) -> usize
-    requires { (a ≤ 2) × (b ≤ 2) }
-    ensures { (result ≡ cond test a b) × (result ≤ 2) }
-{
-    if test { a } else { b }
-}
-
 // The rows that a result adds beside those of its lots: two for shares left over, a new summary, the trade's history,
 // its settlement, and cash for a cash trade.
 fn own_rows(left: Shares, held: bool, flags: u8) -> usize
     ensures { (result ≡ own_rows left held flags) × (result ≤ 8) }
 {
-    let opened = either(left.plain() == 0, 0, 2);
-    let fresh = either(held, 0, 1);
-    opened + fresh + 2 + either(is_cash(flags), 1, 0)
+    let opened = if left.plain() == 0 { 0 } else { 2 };
+    opened + usize::from(!held) + 2 + usize::from(is_cash(flags))
 }
 
 fn rows_added(terms: Terms, figures: Figures) -> usize
@@ -68,20 +62,22 @@ fn rows_added(terms: Terms, figures: Figures) -> usize
 }
 
 // The checks of the rules, one after the other, in a book with so many free places.
-pub fn judge(free: usize, terms: Terms, figures: Figures) -> Status
+#[tactic(auto, using(reply::specs::Ending::stays), unfolding(crate::specs::Judge::judgment))]
+pub fn judge(free: usize, terms: Terms, figures: Figures) -> Result<(), Status>
     requires { (up figures.commission.0 ≤ fee.high) × (figures.walk.closed ≤ most_records) }
-    ensures { result ≡ judgment terms figures free }
+    ensures value { ended result ≡ judgment terms figures free }
+    ensures refusal { Refuses result }
 {
-    let band = terms.band;
-    let s1 = also(Status::Done, terms.known, Status::ResultNoTrade);
-    let s2 = also(
-        s1,
+    check(terms.known, Status::ResultNoTrade)?;
+    check(
         terms.trade.status == TradeStatus::SUBMITTED,
         Status::ResultNotSubmitted,
-    );
-    let s3 = also(s2, !figures.untaxed, Status::ResultNoTax);
-    let s4 = also_rated(s3, band, Status::ResultNoRate, Status::ResultNoBand);
-    let fits = in_range(terms.broker, figures.balance, figures.commission);
-    let s5 = also(s4, fits, Status::OverLimit);
-    also(s5, rows_added(terms, figures) <= free, Status::NoRoom)
+    )?;
+    check(!figures.untaxed, Status::ResultNoTax)?;
+    rated(terms.band, Status::ResultNoRate, Status::ResultNoBand)?;
+    check(
+        in_range(terms.broker, figures.balance, figures.commission),
+        Status::OverLimit,
+    )?;
+    check(rows_added(terms, figures) <= free, Status::NoRoom)
 }

@@ -1,6 +1,6 @@
--- What the judge says is the status of the rules, and where it finds no fault the rows are posted, with the directory
--- kept, and the answer is put.
-use Rattle.std.proofs.Common.{◌≡◌, length, rules}
+-- Where the judge finds no fault the rows are posted, with the directory kept, and the answer is put.
+use Rattle.std.proofs.Common.{◌≡◌, refl, length, rules}
+use Rattle.std.proofs.lemmas.Result.{err_from_is_err_and}
 use Rattle.facts.specs.Found.{sound_s1}
 use Rattle.estimate.specs.Terms.{fits_of, ranged}
 use Rattle.order.specs.Whole.{has_room, order_done, order_refused}
@@ -18,16 +18,16 @@ estimated-estimate-requires c =
 pub post-totals-requires : goal.post-totals-requires
 post-totals-requires c =
     has_room _ c.args.answer.now _ c.requires.book_value.0 c.requires.input_len.1 c.requires.directory
-    c.from_bytes-given.ensures c.terms_of-terms.ensures c.estimated-estimate.ensures c.judge-s.ensures
-    c.done.ensures c.if-done.true
+    c.from_bytes-given.ensures c.terms_of-terms.ensures c.estimated-estimate.ensures c.in_ok-judge.ensures.value
+    refl refl
 
-pub returns-then-done : goal.returns-then-done
-returns-then-done c =
+pub returns : goal.returns
+returns c =
     let same : length c.post-totals.new.book ≡ length c.args.book.now = search rules in
     let done =
     order_done _ _ _ c.requires.book_value.0 c.requires.input_len.1 c.requires.directory c.from_bytes-given.ensures
-    c.terms_of-terms.ensures c.estimated-estimate.ensures c.judge-s.ensures c.done.ensures _
-    c.if-done.true c.post-totals.ensures.book_after c.requires.book_value.1 same (λ i. (c.type_inv.book i).fits)
+    c.terms_of-terms.ensures c.estimated-estimate.ensures c.in_ok-judge.ensures.value refl _ refl
+    c.post-totals.ensures.book_after c.requires.book_value.1 same (λ i. (c.type_inv.book i).fits)
     c.requires.answer_len c.answer_row.ensures c.put.ensures.0
     in
     record {
@@ -35,17 +35,20 @@ returns-then-done c =
       book_after = done.1;
       answer_after = done.2;
       directory_2 = c.post-totals.ensures.directory;
+      refusal = search rules;
     }
 
-pub returns : goal.returns
-returns c =
+pub returns-in_err-judge : goal.returns-in_err-judge
+returns-in_err-judge c =
     let left =
     order_refused _ _ _ c.requires.book_value.0 c.requires.input_len.1 c.requires.directory c.from_bytes-given.ensures
-    c.terms_of-terms.ensures c.estimated-estimate.ensures c.judge-s.ensures c.done.ensures c.if-done.false
+    c.terms_of-terms.ensures c.estimated-estimate.ensures c.in_err-judge.ensures.value refl c.in_err-judge.ensures.refusal
     in
-    record {
+    let gave = err_from_is_err_and c.from_residual.result c.from_residual.ensures.1 in
+    rw (gave.1, gave.2) (record {
       status_value = left.0;
       book_after = left.1;
       answer_after = left.2;
       directory_2 = c.requires.directory;
-    }
+      refusal = c.in_err-judge.ensures.refusal;
+    })
