@@ -13,7 +13,6 @@ ghost use Rattle.hanging.specs.Slots.{MarkedTo, all_past};
 use crate::area::{Large, Middle, Size, Small};
 use by_kind::chain::chain;
 use by_kind::own::{fit, own, standing};
-use chains::chain::narrow;
 use directory::build::build;
 use hanging::{hang, hung};
 use model::Status;
@@ -102,7 +101,7 @@ fn judged_in<const LINKS: usize, const MARKS: usize>(book: &[u8], dir: &[u16]) -
     requires marks_bound { (8 * places book.now ≤ MARKS) × (MARKS ≤ 32768) }
     ensures { result ≡ sound (rows book.now) }
 {
-    let none = narrow(book.len() / Grid::SIZE);
+    let none = (book.len() / Grid::SIZE) as u16;
     let mut links = [none; LINKS];
     let mut marks = [0; MARKS];
     judged(book, dir, &mut links, &mut marks)
@@ -126,7 +125,7 @@ fn sound_in<const CELLS: usize>(book: &[u8]) -> bool
     requires cells_bound { (places book.now < CELLS / 2) × (CELLS ≤ 32768) }
     ensures { result ≡ sound (rows book.now) }
 {
-    let mut dir = [narrow(book.len() / Grid::SIZE); CELLS];
+    let mut dir = [(book.len() / Grid::SIZE) as u16; CELLS];
     build(book, &mut dir);
     sound_by(book, &dir)
 }
