@@ -2,10 +2,10 @@
 // promised.
 #![tactic(auto)]
 
-ghost use Rattle.std.specs.Prelude.{◌≡◌, ◌<◌};
-ghost use Rattle.model.specs.Call.{Promise, feed_call, lookup_call, order_call, result_call};
-ghost use Rattle.model.specs.Rows.{places};
-ghost use Rattle.shell.specs.Shell.{call_of};
+ghost use Rattle.std.specs.Prelude.{◌≡◌, true, ◌*◌, ◌/◌, ◌<◌, ◌≤◌, length};
+ghost use Rattle.model.specs.Call.{Promise, feed_call, lookup_call, most_inputs, order_call, result_call};
+ghost use Rattle.model.specs.Rows.{most_records, places, record_size, whole_records};
+ghost use Rattle.shell.specs.Shell.{call_of, long_of};
 
 use chains::chain::narrow;
 use kinds::limits::Ranges;
@@ -13,7 +13,7 @@ use model::Status;
 use record::row::Grid;
 use reply::code;
 use shell::{Call, long, looked, within};
-use sound::area::{Large, Middle, Small};
+use sound::area::{Large, Middle, Size, Small};
 use sound::whole::whole;
 
 // The number of records, as a directory has it.
@@ -27,6 +27,22 @@ fn records(book: &[u8]) -> u16
     0
 }
 
+// The shell of a call that changes a book, with a directory of so many cells.
+fn within_cells<const CELLS: usize>(
+    call: Call,
+    book: &mut [u8],
+    input: &[u8],
+    answer: &mut [u8],
+) -> i32
+    requires room { (places book.old ≤ most_records → places book.old < CELLS / 2) × (CELLS ≤ 32768) }
+    requires input_value { (long_of call (length input.now) ≡ true) × (length answer.old ≡ record_size) }
+    ensures { Promise (call_of call book.old input.now answer.old) result book.new
+        answer.new }
+{
+    let mut dir = [records(book); CELLS];
+    within(call, book, &mut dir, input, answer)
+}
+
 // The lengths, and a directory of the book's size.
 fn called(call: Call, book: &mut [u8], input: &[u8], answer: &mut [u8]) -> i32
     ensures { Promise (call_of call book.old input.now answer.old) result book.new
@@ -35,18 +51,11 @@ fn called(call: Call, book: &mut [u8], input: &[u8], answer: &mut [u8]) -> i32
     if !(long(call, input.len()) & (answer.len() == Grid::SIZE)) {
         return code(Status::BadLength);
     }
-    let n = book.len() / Grid::SIZE;
-    let none = records(book);
-    if n <= Small::RECORDS {
-        let mut dir = [none; Small::CELLS];
-        return within(call, book, &mut dir, input, answer);
+    match Size::of(book.len() / Grid::SIZE) {
+        Size::Small => within_cells::<{ Small::CELLS }>(call, book, input, answer),
+        Size::Middle => within_cells::<{ Middle::CELLS }>(call, book, input, answer),
+        Size::Large => within_cells::<{ Large::CELLS }>(call, book, input, answer),
     }
-    if n <= Middle::RECORDS {
-        let mut dir = [none; Middle::CELLS];
-        return within(call, book, &mut dir, input, answer);
-    }
-    let mut dir = [none; Large::CELLS];
-    within(call, book, &mut dir, input, answer)
 }
 
 // Trade-Order.
@@ -76,6 +85,18 @@ pub extern "C" fn book_feed(book: &mut [u8], input: &[u8], answer: &mut [u8]) ->
     called(Call::Feed, book, input, answer)
 }
 
+// The shell of a lookup, with a directory of so many cells.
+fn looked_cells<const CELLS: usize>(book: &[u8], input: &[u8], answer: &mut [u8]) -> i32
+    requires room { (places book.now ≤ most_records → places book.now < CELLS / 2) × (CELLS ≤ 32768) }
+    requires input_value { (whole_records most_inputs (length input.now) ≡ true)
+        × (length answer.old ≡ 2 * length input.now) }
+    ensures { Promise (lookup_call book.now input.now answer.old) result book.now
+        answer.new }
+{
+    let mut dir = [records(book); CELLS];
+    looked(book, &mut dir, input, answer)
+}
+
 // Trade-Lookup by trade number.
 #[unsafe(no_mangle)]
 pub extern "C" fn book_lookup(book: &[u8], input: &[u8], answer: &mut [u8]) -> i32
@@ -85,16 +106,9 @@ pub extern "C" fn book_lookup(book: &[u8], input: &[u8], answer: &mut [u8]) -> i
     if !(whole(input.len(), Ranges::INPUTS) & (answer.len() == 2 * input.len())) {
         return code(Status::BadLength);
     }
-    let n = book.len() / Grid::SIZE;
-    let none = records(book);
-    if n <= Small::RECORDS {
-        let mut dir = [none; Small::CELLS];
-        return looked(book, &mut dir, input, answer);
+    match Size::of(book.len() / Grid::SIZE) {
+        Size::Small => looked_cells::<{ Small::CELLS }>(book, input, answer),
+        Size::Middle => looked_cells::<{ Middle::CELLS }>(book, input, answer),
+        Size::Large => looked_cells::<{ Large::CELLS }>(book, input, answer),
     }
-    if n <= Middle::RECORDS {
-        let mut dir = [none; Middle::CELLS];
-        return looked(book, &mut dir, input, answer);
-    }
-    let mut dir = [none; Large::CELLS];
-    looked(book, &mut dir, input, answer)
 }

@@ -5,19 +5,19 @@
 ghost use Rattle.std.specs.Prelude.{◌≡◌, true, ◌<◌};
 ghost use Rattle.model.specs.Names.{a_trade};
 ghost use Rattle.model.specs.Rows.{found, places, rows};
-ghost use Rattle.model.specs.Sound.{band_apart, equal_z, rates_fit, s1};
+ghost use Rattle.model.specs.Sound.{band_apart, rates_fit, s1};
 ghost use Rattle.places.specs.Rows.{row_at};
 ghost use Rattle.directory.specs.Listed.{Listed};
 ghost use Rattle.by_group.specs.Kept.{comes_to, lot_kept};
 
+use units::Amount;
+use kinds::typed::Typed;
 use directory::typed;
 use groups::sums::{holding, overlapping, rates};
 use kinds::rows::{Customer, Lot, Summary, Trade};
-use kinds::typed::Typed;
 use places::place::part;
 use record::codes::TradeStatus;
 use record::row::Grid;
-use units::{Amount, Shares};
 
 // The band at a place overlaps itself alone.
 pub fn apart(book: &[u8], dir: &[u16], i: usize) -> bool
@@ -53,12 +53,6 @@ pub fn held(book: &[u8], dir: &[u16], p: usize, i: usize) -> bool
         & (at < book.len() / Grid::SIZE)
 }
 
-fn same(a: Shares, b: Shares) -> bool
-    ensures { result ≡ equal_z a.0 b.0 }
-{
-    a.0 == b.0
-}
-
 // The lots of a summary are some, of one sign, and come to its shares.
 pub fn summed(book: &[u8], dir: &[u16], s: Summary) -> bool
     requires { Listed book.now dir.now × (s1 (rows book.now) ≡ true) }
@@ -67,6 +61,6 @@ pub fn summed(book: &[u8], dir: &[u16], s: Summary) -> bool
     let h = holding(book, dir, s.account, s.symbol);
     let long = h.long;
     let owed = h.owed;
-    let equal = same(long.less(owed), s.shares);
-    (1 <= h.lots) & equal & ((long.plain() == 0) | (owed.plain() == 0))
+    let left = long.less(owed);
+    (1 <= h.lots) & (left.0 == s.shares.0) & ((long.plain() == 0) | (owed.plain() == 0))
 }

@@ -129,7 +129,7 @@ module _ {b : List ℕ} (s : WellBut b kind_summary) where
 
 -- ---- the loops
 -- S1, S2 and its own rule are all of a row that does not hang on a trade
-own_first : (rs : List Row) (r : Row) (k : ℕ) → r.kind ≡ k → among k hung_kinds ≡ false → first_well rs r ≡ own_well rs r
+pub own_first : (rs : List Row) (r : Row) (k : ℕ) → r.kind ≡ k → among k hung_kinds ≡ false → first_well rs r ≡ own_well rs r
 unfolding first_well
 own_first rs r k e h =
     let n : hangs r ≡ false = ap (λ (x : ℕ). among x hung_kinds) e ∙ h in

@@ -10,3 +10,4 @@ pub mod Chains
 pub mod Kinds
 pub mod Spelt
 pub mod Told
+pub mod Tested

@@ -15,7 +15,7 @@ ghost use Rattle.by_kind.specs.Kinds.{KindFits, KindWell, WellTo};
 ghost use Rattle.by_kind.specs.Distinct.{last_at};
 ghost use Rattle.by_kind.specs.Says.{Says};
 
-use crate::chain::{first, next};
+use crate::chain::every;
 use chains::chain;
 use clauses::own::{kept, right};
 use directory::find::again;
@@ -107,16 +107,7 @@ pub fn own(book: &[u8], dir: &[u16], links: &[u16], kind: u8) -> bool
     requires kind_fits { kind ≡ kind_trade → KindFits book.now kind_security }
     ensures { Says result (KindWell book.now kind) (sound (rows book.now)) }
 {
-    let n = book.len() / Grid::SIZE;
-    let mut c = first(links, kind);
-    while c < n {
-        if own_at(book, dir, kind, c) {
-            c = next(links, c);
-        } else {
-            return false;
-        }
-    }
-    true
+    every(book, links, kind, |i| own_at(book, dir, kind, i))
 }
 
 // The same for the kinds up to the trades.
@@ -125,11 +116,8 @@ pub fn standing(book: &[u8], dir: &[u16], links: &[u16]) -> bool
     requires by_kind { ByKind book.now links.now 0 }
     ensures { Says result (WellTo book.now 10) (sound (rows book.now)) }
 {
-    let mut k = 0;
-    while k < Kind::REQUEST {
-        if own(book, dir, links, k) {
-            k += 1;
-        } else {
+    for kind in 0..Kind::REQUEST {
+        if !own(book, dir, links, kind) {
             return false;
         }
     }
@@ -142,14 +130,5 @@ pub fn fit(book: &[u8], links: &[u16], kind: u8) -> bool
     requires kind_le_last_kind { kind ≤ last_kind }
     ensures { Says result (KindFits book.now kind) (sound (rows book.now)) }
 {
-    let n = book.len() / Grid::SIZE;
-    let mut c = first(links, kind);
-    while c < n {
-        if fit_at(book, c) {
-            c = next(links, c);
-        } else {
-            return false;
-        }
-    }
-    true
+    every(book, links, kind, |i| fit_at(book, i))
 }

@@ -4,25 +4,12 @@
 ghost use Rattle.std.specs.Prelude.{◌≡◌, ◌+◌, ◌<◌, ◌≤◌, get_or, length, set};
 ghost use Rattle.chains.specs.Chains.{Before, Rising, half};
 
-fn wide(x: u16) -> usize
-    ensures { result ≡ x }
-{
-    x as usize
-}
-
-pub fn narrow(x: usize) -> u16
-    requires { x < 65536 }
-    ensures { result ≡ x }
-{
-    x as u16
-}
-
 // The first place of a bucket.
 pub fn first(dir: &[u16], bucket: usize) -> usize
     requires { bucket < half dir.now }
     ensures { result ≡ get_or dir.now bucket 0 }
 {
-    wide(dir[bucket])
+    usize::from(dir[bucket])
 }
 
 // The next place after p.
@@ -30,7 +17,7 @@ pub fn next(dir: &[u16], p: usize) -> usize
     requires { p < half dir.now }
     ensures { result ≡ get_or dir.now (half dir.now + p) 0 }
 {
-    wide(dir[dir.len() / 2 + p])
+    usize::from(dir[dir.len() / 2 + p])
 }
 
 // The cell of a bucket's chain that leads to the place p, or past it where p is not in the chain.
@@ -64,5 +51,5 @@ pub fn link(dir: &mut [u16], x: usize, p: usize)
 {
     let s = dir.len() / 2 + p;
     dir[s] = dir[x];
-    dir[x] = narrow(p);
+    dir[x] = p as u16;
 }

@@ -16,12 +16,6 @@ use record::row::Row;
 use record::symbol::Symbol;
 use units::{AccountNo, CustomerNo};
 
-fn wide8(x: u8) -> u64
-    ensures { (result ≡ x) × (result < 256) }
-{
-    x as u64
-}
-
 // Both halves of a number tell: trades may be numbered in either.
 fn spread(id: u64) -> u64
     ensures { (result ≡ spread id) × (result < 4611686018427387904) }
@@ -39,10 +33,10 @@ fn letters(symbol: Symbol) -> u64
 fn hash(group: Key) -> u64
     ensures { (result ≡ hash_of group) × (result < 4294967296) }
 {
-    let name = wide8(group.kind)
-        + wide8(group.form) * 256
-        + wide8(group.status) * 65_536
-        + wide8(group.flags) * 16_777_216;
+    let name = u64::from(group.kind)
+        + u64::from(group.form) * 256
+        + u64::from(group.status) * 65_536
+        + u64::from(group.flags) * 16_777_216;
     let mixed = name * 331_315_835
         + u64::from(group.party) * 428_851_817
         + spread(group.id)

@@ -22,13 +22,6 @@ fn past(book: &[u8], i: usize) -> u8
     TradeHistory::from_bytes(part(book, i)).status
 }
 
-// A status or a kind as the number of a place.
-pub fn index(code: u8) -> usize
-    ensures { result ≡ code }
-{
-    code as usize
-}
-
 // The mark of the row at i, which is of this kind.
 pub fn offset(book: &[u8], kind: u8, i: usize) -> usize
     requires i_bound { (i < places book.now) × ((row_at book.now i).kind ≡ kind) }
@@ -36,7 +29,7 @@ pub fn offset(book: &[u8], kind: u8, i: usize) -> usize
     ensures { result ≡ offset (row_at book.now i) }
 {
     match kind {
-        Kind::TRADE_HISTORY => index(past(book, i)),
+        Kind::TRADE_HISTORY => usize::from(past(book, i)),
         Kind::LOT => 5,
         Kind::SETTLEMENT => 6,
         Kind::CASH => 7,

@@ -7,7 +7,6 @@ ghost use Rattle.directory.specs.Listed.{places};
 use crate::totals::{Totals, raised};
 use chains::chain::link;
 use chains::group;
-use places::count::bit;
 use places::place::row_at;
 use record::codes::Kind;
 use record::row::Grid;
@@ -28,15 +27,12 @@ pub fn build(book: &[u8], dir: &mut [u16]) -> Totals
 {
     let mut free = 0;
     let mut top = TradeNo(0);
-    let mut i = book.len() / Grid::SIZE;
-    while 0 < i {
-        let j = i - 1;
-        let row = row_at(book, j);
+    for i in (0..book.len() / Grid::SIZE).rev() {
+        let row = row_at(book, i);
         let bucket = group::bucket(dir.len() / 2, group::of(row));
-        link(dir, bucket, j);
-        free += bit(row.kind == Kind::FREE);
+        link(dir, bucket, i);
+        free += usize::from(row.kind == Kind::FREE);
         top = raised(top, row);
-        i = j;
     }
     Totals { free, largest: top }
 }

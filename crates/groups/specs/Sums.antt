@@ -3,7 +3,7 @@
 use Rattle.std.specs.Prelude.{◌≡◌, refl, Bool, true, false, cond, ◌&&◌, List, ℕ, ◌+◌, ◌*◌, ◌≤◌, ◌<◌, eqb, leb, ℤ, pos, negsuc, nat_abs, ◌+ℤ◌, neg_ℤ, get_or}
 use Rattle.std.proofs.Common.{sym, ap, ◌∙◌, arith, to_z, eqb-true, ltb-true}
 use Rattle.std.specs.Int.Signed.{lt_z}
-use Rattle.std.specs.Int.{w64}
+use Rattle.std.specs.Int.{from_bool, w64}
 use Rattle.laws.specs.Search.{bit, count, total}
 use Rattle.laws.specs.Tests.{and_assoc, and_left, and_right}
 use Rattle.laws.specs.Place.{every_at}
@@ -285,6 +285,15 @@ fits_there b c e h = every_at fits nothing (rows b) c e (rw length_rows h)
 
 pub same_bit : {x : ℕ} {y z : Bool} → x ≡ bit y → y ≡ z → x ≡ bit z
 same_bit e h = e ∙ ap bit h
+
+-- a test as a number, as the code has it
+pub bit_from : (t : Bool) → from_bool t ≡ bit t
+bit_from true = refl
+bit_from false = refl
+
+pub bit_small : (t : Bool) → bit t ≤ 1
+bit_small true = omega arith
+bit_small false = omega arith
 
 pub bit_yes : (t : Bool) → t ≡ true → 1 ≡ bit t
 bit_yes t e = rw e

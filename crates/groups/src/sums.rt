@@ -10,14 +10,13 @@ ghost use Rattle.places.specs.Rows.{row_at};
 ghost use Rattle.directory.specs.Listed.{Listed};
 ghost use Rattle.groups.specs.Sums.{AddsSide, HoldsSide, meet, meets};
 
+use kinds::typed::Typed;
 use crate::lots::in_holding;
 use chains::chain::next;
 use chains::group;
 use directory::typed::tax_rate;
 use kinds::limits::Ranges;
 use kinds::rows::{Band, CustomerRate, Lot, TaxRate};
-use kinds::typed::Typed;
-use places::count::bit;
 use places::place::{part, record_at};
 use record::codes::Kind;
 use record::row::Grid;
@@ -59,7 +58,7 @@ pub fn overlapping(book: &[u8], dir: &[u16], i: usize) -> usize
     let bands = group::bands_of(band.trade_type, band.tier, band.exchange);
     let mut c = group::first(dir, bands);
     while c < n {
-        sum += bit(overlaps(book, band, c));
+        sum += usize::from(overlaps(book, band, c));
         c = next(dir, c);
     }
     sum
@@ -140,12 +139,6 @@ pub struct Held {
     pub owed: Shares,
 }
 
-fn below_zero(shares: Shares) -> bool
-    ensures { result ≡ lt_z shares.0 (pos 0) }
-{
-    shares.0 < 0
-}
-
 // What the record at a place adds to a holding.
 fn added(book: &[u8], account: AccountNo, symbol: Symbol, at: usize) -> Held
     requires { (at < places book.now) × (fits (row_at book.now at) ≡ true) }
@@ -157,7 +150,7 @@ fn added(book: &[u8], account: AccountNo, symbol: Symbol, at: usize) -> Held
     let lot = Lot::from_bytes(record);
     if (record[Grid::KIND] == Kind::LOT) & in_holding(account, symbol, lot) {
         let shares = lot.shares;
-        if below_zero(shares) {
+        if shares.0 < 0 {
             return Held {
                 lots: 1,
                 long: Shares(0),

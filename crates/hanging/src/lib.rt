@@ -19,7 +19,7 @@ ghost use Rattle.hanging.specs.Slots.{MarkedTo, all_past};
 ghost use Rattle.hanging.specs.Turn.{Hanged};
 
 use by_kind::chain::{first, next};
-use clauses::hung::{fits_trade, index, offset};
+use clauses::hung::{fits_trade, offset};
 use directory::typed::trade;
 use fields::fits_beside;
 use kinds::rows::Trade;
@@ -39,12 +39,6 @@ impl Marks {
 
     // As many as any book has: no mark's number.
     pub const NONE: usize = 32_768;
-}
-
-fn one(b: bool) -> u8
-    ensures { result ≡ bit b }
-{
-    if b { 1 } else { 0 }
 }
 
 // The slot of the row at i where that is well and no row before it has the slot, else no mark's number. Its symbol is
@@ -107,16 +101,16 @@ fn hung_at(book: &[u8], marks: &[u8], i: usize) -> bool
     let t = Trade::from_bytes(part(book, i));
     let m = i * Marks::EACH;
     let request = marks[m];
-    let history = marks[m + index(t.status)];
+    let history = marks[m + usize::from(t.status)];
     let settlement = marks[m + 6];
     let cash = marks[m + 7];
     let pending = t.status == TradeStatus::PENDING;
     let done = t.status == TradeStatus::COMPLETED;
-    (request == one(pending))
+    (request == u8::from(pending))
         & (!pending | (TradeType::TLB <= t.trade_type))
         & (history == 1)
-        & (settlement == one(done))
-        & (cash == one(done & (t.flags % 2 == 1)))
+        & (settlement == u8::from(done))
+        & (cash == u8::from(done & (t.flags % 2 == 1)))
 }
 
 pub fn hung(book: &[u8], links: &[u16], marks: &[u8]) -> bool

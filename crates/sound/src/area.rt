@@ -1,5 +1,7 @@
 // The areas of a check by the size of the book, so that a small book does not pay for clearing large ones: the cells of
 // its directory, its places chained by kind, and the marks of its trades.
+ghost use Rattle.sound.specs.Area.{Holds};
+
 use by_kind::chain::Links;
 use hanging::Marks;
 use kinds::limits::Ranges;
@@ -42,4 +44,26 @@ impl Large {
     pub const LINKS: usize = Links::HEADS + Large::RECORDS;
 
     pub const MARKS: usize = Marks::EACH * Large::RECORDS;
+}
+
+// The size of a book.
+#[derive(Clone, Copy)]
+pub enum Size {
+    Small,
+    Middle,
+    Large,
+}
+
+impl Size {
+    pub fn of(records: usize) -> Size
+        ensures { Holds result records }
+    {
+        if records <= Small::RECORDS {
+            return Size::Small;
+        }
+        if records <= Middle::RECORDS {
+            return Size::Middle;
+        }
+        Size::Large
+    }
 }

@@ -1,19 +1,18 @@
 // The whole of a book, kind by kind; and its status.
-ghost use Rattle.std.specs.Prelude.{◌≡◌, ◌*◌, ◌≤◌};
+ghost use Rattle.std.specs.Prelude.{◌≡◌, ◌+◌, ◌*◌, ◌/◌, ◌≤◌, ◌<◌};
 ghost use Rattle.record.specs.Codes.{kind_lot_history, kind_permission, kind_summary};
 ghost use Rattle.model.specs.Rows.{most_records, places, rows, whole_records};
 ghost use Rattle.model.specs.Sound.{sound};
 ghost use Rattle.model.specs.Tally.{book_status};
 ghost use Rattle.directory.specs.Listed.{Listed};
-ghost use Rattle.by_kind.specs.Chains.{ByKind, NoChains};
+ghost use Rattle.by_kind.specs.Chains.{ByKind, NoChains, kind_heads};
 ghost use Rattle.by_kind.specs.Kinds.{KindWell, WellBut, WellTo};
 ghost use Rattle.by_kind.specs.Says.{Says};
 ghost use Rattle.hanging.specs.Slots.{MarkedTo, all_past};
 
-use crate::area::{Large, Middle, Small};
+use crate::area::{Large, Middle, Size, Small};
 use by_kind::chain::chain;
 use by_kind::own::{fit, own, standing};
-use chains::chain::narrow;
 use directory::build::build;
 use hanging::{hang, hung};
 use model::Status;
@@ -95,33 +94,16 @@ fn judged(book: &[u8], dir: &[u16], links: &mut [u16], marks: &mut [u8]) -> bool
     closing(book, dir, links, marks)
 }
 
-fn small(book: &[u8], dir: &[u16]) -> bool
-    requires { Listed book.now dir.now × (places book.now ≤ 127) }
+// The same in areas of their own, of so many links and marks.
+fn judged_in<const LINKS: usize, const MARKS: usize>(book: &[u8], dir: &[u16]) -> bool
+    requires listed { Listed book.now dir.now }
+    requires links_bound { (kind_heads + places book.now ≤ LINKS) × (LINKS ≤ 32768) }
+    requires marks_bound { (8 * places book.now ≤ MARKS) × (MARKS ≤ 32768) }
     ensures { result ≡ sound (rows book.now) }
 {
-    let none = narrow(book.len() / Grid::SIZE);
-    let mut links = [none; Small::LINKS];
-    let mut marks = [0; Small::MARKS];
-    judged(book, dir, &mut links, &mut marks)
-}
-
-fn middle(book: &[u8], dir: &[u16]) -> bool
-    requires { Listed book.now dir.now × (places book.now ≤ 1023) }
-    ensures { result ≡ sound (rows book.now) }
-{
-    let none = narrow(book.len() / Grid::SIZE);
-    let mut links = [none; Middle::LINKS];
-    let mut marks = [0; Middle::MARKS];
-    judged(book, dir, &mut links, &mut marks)
-}
-
-fn large(book: &[u8], dir: &[u16]) -> bool
-    requires { Listed book.now dir.now }
-    ensures { result ≡ sound (rows book.now) }
-{
-    let none = narrow(book.len() / Grid::SIZE);
-    let mut links = [none; Large::LINKS];
-    let mut marks = [0; Large::MARKS];
+    let none = (book.len() / Grid::SIZE) as u16;
+    let mut links = [none; LINKS];
+    let mut marks = [0; MARKS];
     judged(book, dir, &mut links, &mut marks)
 }
 
@@ -130,56 +112,34 @@ pub fn sound_by(book: &[u8], dir: &[u16]) -> bool
     requires { Listed book.now dir.now }
     ensures { result ≡ sound (rows book.now) }
 {
-    let n = book.len() / Grid::SIZE;
-    if n <= Small::RECORDS {
-        return small(book, dir);
+    match Size::of(book.len() / Grid::SIZE) {
+        Size::Small => judged_in::<{ Small::LINKS }, { Small::MARKS }>(book, dir),
+        Size::Middle => judged_in::<{ Middle::LINKS }, { Middle::MARKS }>(book, dir),
+        Size::Large => judged_in::<{ Large::LINKS }, { Large::MARKS }>(book, dir),
     }
-    if n <= Middle::RECORDS {
-        return middle(book, dir);
-    }
-    large(book, dir)
 }
 
-// The same for a book whose directory is not made yet.
-fn small_book(book: &[u8]) -> bool
-    requires { places book.now ≤ 127 }
+// The same by a directory of its own, of so many cells.
+fn sound_in<const CELLS: usize>(book: &[u8]) -> bool
+    requires book_bound { places book.now ≤ most_records }
+    requires cells_bound { (places book.now < CELLS / 2) × (CELLS ≤ 32768) }
     ensures { result ≡ sound (rows book.now) }
 {
-    let mut dir = [narrow(book.len() / Grid::SIZE); Small::CELLS];
+    let mut dir = [(book.len() / Grid::SIZE) as u16; CELLS];
     build(book, &mut dir);
-    small(book, &dir)
+    sound_by(book, &dir)
 }
 
-fn middle_book(book: &[u8]) -> bool
-    requires { places book.now ≤ 1023 }
-    ensures { result ≡ sound (rows book.now) }
-{
-    let mut dir = [narrow(book.len() / Grid::SIZE); Middle::CELLS];
-    build(book, &mut dir);
-    middle(book, &dir)
-}
-
-fn large_book(book: &[u8]) -> bool
-    requires { places book.now ≤ most_records }
-    ensures { result ≡ sound (rows book.now) }
-{
-    let mut dir = [narrow(book.len() / Grid::SIZE); Large::CELLS];
-    build(book, &mut dir);
-    large(book, &dir)
-}
-
+// The book is sound.
 fn sound(book: &[u8]) -> bool
     requires { places book.now ≤ most_records }
     ensures { result ≡ sound (rows book.now) }
 {
-    let n = book.len() / Grid::SIZE;
-    if n <= Small::RECORDS {
-        return small_book(book);
+    match Size::of(book.len() / Grid::SIZE) {
+        Size::Small => sound_in::<{ Small::CELLS }>(book),
+        Size::Middle => sound_in::<{ Middle::CELLS }>(book),
+        Size::Large => sound_in::<{ Large::CELLS }>(book),
     }
-    if n <= Middle::RECORDS {
-        return middle_book(book);
-    }
-    large_book(book)
 }
 
 pub fn whole(n: usize, most: usize) -> bool

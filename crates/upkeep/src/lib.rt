@@ -68,12 +68,10 @@ fn below(book: &[u8], dir: &[u16], at: usize) -> usize
         Leads book.now d (half d - 1) at result }
 {
     let heads = dir.len() / 2;
-    let mut q = at;
-    while 0 < q {
-        if row_at(book, q - 1).kind == Kind::FREE {
-            return heads + (q - 1);
+    for q in (0..at).rev() {
+        if row_at(book, q).kind == Kind::FREE {
+            return heads + q;
         }
-        q -= 1;
     }
     heads - 1
 }

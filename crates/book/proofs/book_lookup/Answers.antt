@@ -1,9 +1,9 @@
 -- The lengths, and then the shell of a lookup with a directory of the book's size.
-use Rattle.std.proofs.Common.{◌*◌, length, not, ap, arith}
+use Rattle.std.proofs.Common.{◌*◌, length, not, ap}
 use Rattle.model.specs.Call.{run}
 use Rattle.model.specs.declared.Status.TheVariants.{BadLength}
 use Rattle.facts.specs.Status.{number_back}
-use Rattle.book.specs.Lengths.{room, uncalled, wrong_lengths}
+use Rattle.book.specs.Lengths.{uncalled, wrong_lengths}
 use Rattle.book.proofs.book_lookup.Goals as goal
 
 pub returns-then-not-whole-answer : goal.returns-then-not-whole-answer
@@ -12,16 +12,3 @@ returns-then-not-whole-answer c =
     let many = 2 * length c.args.input.now in
     let wrong = wrong_lengths c.args.answer.now many c.whole.ensures (ap not c.if-not-whole-answer.true) in
     uncalled _ _ _ _ wrong (number_back c.code.result BadLength c.code.ensures)
-
-pub looked-requires-clause-room : goal.looked-requires-clause-room
-looked-requires-clause-room c =
-    let few = c.if-n-le-RECORDS.true in
-    room _ 512 _ c.records-none.ensures (λ n. omega arith) (omega arith)
-
-pub looked-requires-then-n-le-RECORDS-2-clause-room : goal.looked-requires-then-n-le-RECORDS-2-clause-room
-looked-requires-then-n-le-RECORDS-2-clause-room c =
-    let few = c.if-n-le-RECORDS-2.true in
-    room _ 4096 _ c.records-none.ensures (λ n. omega arith) (omega arith)
-
-pub looked-requires-2-clause-room : goal.looked-requires-2-clause-room
-looked-requires-2-clause-room c = room _ 32768 _ c.records-none.ensures (λ n. omega arith) (omega arith)

@@ -1,20 +1,7 @@
--- A walk over the places of a kind.
+-- A test of each place of the kind.
 use Rattle.std.proofs.Common.{rules}
-use Rattle.by_kind.specs.Chains.{chains}
-use Rattle.by_kind.specs.Kinds.{kinds}
+use Rattle.by_kind.specs.Tested.{fit_tested}
 use Rattle.by_kind.proofs.own.fit.Goals as goal
 
-pub loop-c-init : goal.loop-c-init
-loop-c-init c = search (rules, chains, kinds)
-
-pub loop-c-smaller : goal.loop-c-smaller
-loop-c-smaller c = search (rules, chains, kinds)
-
-pub loop-c-preserved : goal.loop-c-preserved
-loop-c-preserved c = search (rules, chains, kinds)
-
-pub returns-else-fit_at : goal.returns-else-fit_at
-returns-else-fit_at c = search (rules, chains, kinds)
-
 pub returns : goal.returns
-returns c = search (rules, chains, kinds)
+returns c = fit_tested c.every.ensures (λ j x told. search rules)

@@ -1,20 +1,7 @@
--- A walk over the places of a kind.
+-- A test of each place of the kind.
 use Rattle.std.proofs.Common.{rules}
-use Rattle.by_kind.specs.Chains.{chains}
-use Rattle.by_kind.specs.Kinds.{kinds}
+use Rattle.by_kind.specs.Tested.{own_tested}
 use Rattle.by_kind.proofs.own.own.Goals as goal
 
-pub loop-c-init : goal.loop-c-init
-loop-c-init c = search (rules, chains, kinds)
-
-pub loop-c-smaller : goal.loop-c-smaller
-loop-c-smaller c = search (rules, chains, kinds)
-
-pub loop-c-preserved : goal.loop-c-preserved
-loop-c-preserved c = search (rules, chains, kinds)
-
-pub returns-else-own_at : goal.returns-else-own_at
-returns-else-own_at c = search (rules, chains, kinds)
-
 pub returns : goal.returns
-returns c = search (rules, chains, kinds)
+returns c = own_tested c.every.ensures c.requires.kind_le_last_kind.1 (λ j x told. search rules)

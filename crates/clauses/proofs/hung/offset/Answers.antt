@@ -7,7 +7,7 @@ use Rattle.clauses.proofs.hung.offset.Goals as goal
 
 pub returns-in-11 : goal.returns-in-11
 returns-in-11 c =
-    c.index.ensures ∙ c.past.ensures ∙ sym (offset_as kind_trade_history _ (c.requires.i_bound.1 ∙ c.in-11.is))
+    c.from.ensures ∙ c.past.ensures ∙ sym (offset_as kind_trade_history _ (c.requires.i_bound.1 ∙ c.in-11.is))
 
 pub returns-in-12 : goal.returns-in-12
 returns-in-12 c = sym (offset_as kind_lot _ (c.requires.i_bound.1 ∙ c.in-12.is))

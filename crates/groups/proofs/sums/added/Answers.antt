@@ -1,5 +1,6 @@
 -- A lot of the account and symbol has shares on one side, in their range since the row fits.
-use Rattle.std.proofs.Common.{◌≡◌, Bool, false, true, sym, ap, ◌∙◌, arith}
+use Rattle.std.proofs.Common.{◌≡◌, Bool, false, true, sym, ap, ◌∙◌, arith, rules, SFits, w64}
+use Rattle.std.proofs.lemmas.Int.{to_z-of_z}
 use Rattle.kinds.specs.Kinds.{lot_of}
 use Rattle.units.specs.declared.Shares.{Shares}
 use Rattle.places.specs.Rows.{row_at}
@@ -16,14 +17,15 @@ negated-requires c =
     let size = adds_size _ _ _ c.requires.1 mine (lot_amount _ lot) in
     omega arith
 
-pub returns-then-below_zero : goal.returns-then-below_zero
-returns-then-below_zero c =
+pub returns-then-shares-lt0 : goal.returns-then-shares-lt0
+returns-then-shares-lt0 c =
     let row = c.part-record.ensures.1 in
     let lot = c.from_bytes-lot.ensures ∙ ap lot_of row in
     let told = lot_told _ _ _ (kind_byte _ row) lot c.in_holding.ensures in
     let mine = sym told ∙ c.if-record-in_holding.true in
+    let fits : SFits w64 c.from_bytes-lot.result.shares.0 = search rules in
     let both = adds_owed _ _ _ c.requires.1 mine (lot_amount _ lot)
-    (sym c.below_zero.ensures ∙ c.if-below_zero.true)
+    (rw to_z-of_z at c.if-shares-lt0.true)
     (ap (λ (x : Shares). x.0) c.negated.ensures.value) c.negated.ensures.result_value in
     record { lots_value = (bit_yes _ mine, omega arith); adds_side = both.0; adds_side_2 = both.1 }
 
@@ -33,8 +35,9 @@ returns-then-record-in_holding c =
     let lot = c.from_bytes-lot.ensures ∙ ap lot_of row in
     let told = lot_told _ _ _ (kind_byte _ row) lot c.in_holding.ensures in
     let mine = sym told ∙ c.if-record-in_holding.true in
+    let fits : SFits w64 c.from_bytes-lot.result.shares.0 = search rules in
     let both = adds_long _ _ _ c.requires.1 mine (lot_amount _ lot)
-    (sym c.below_zero.ensures ∙ c.if-below_zero.false) in
+    (rw to_z-of_z at c.if-shares-lt0.false) in
     record { lots_value = (bit_yes _ mine, omega arith); adds_side = both.0; adds_side_2 = both.1 }
 
 pub returns : goal.returns

@@ -1,7 +1,0 @@
--- The area is large enough for the directory, and blank.
-use Rattle.std.proofs.Common.{arith}
-use Rattle.directory.specs.Directory.{blank_of}
-use Rattle.sound.proofs.whole.large_book.Goals as goal
-
-pub build-requires-clause-blank : goal.build-requires-clause-blank
-build-requires-clause-blank c = blank_of _ 32768 _ c.narrow-dir.ensures (omega arith) (omega arith)
