@@ -10,14 +10,14 @@ ghost use Rattle.places.specs.Rows.{row_at};
 ghost use Rattle.directory.specs.Listed.{Listed};
 ghost use Rattle.by_group.specs.Kept.{comes_to, lot_kept};
 
-use units::Amount;
-use kinds::typed::Typed;
 use directory::typed;
 use groups::sums::{holding, overlapping, rates};
 use kinds::rows::{Customer, Lot, Summary, Trade};
+use kinds::typed::Typed;
 use places::place::part;
 use record::codes::TradeStatus;
 use record::row::Grid;
+use units::Amount;
 
 // The band at a place overlaps itself alone.
 pub fn apart(book: &[u8], dir: &[u16], i: usize) -> bool

@@ -4,7 +4,6 @@ ghost use Rattle.model.specs.Plan.{verdict};
 ghost use Rattle.reply.specs.Ending.{Refuses, ended};
 ghost use Rattle.estimate.specs.Judge.{judged, own_checks, rows_added};
 
-use units::Amount;
 use crate::figures::Estimate;
 use crate::terms::Terms;
 use directory::totals::Totals;
@@ -13,6 +12,7 @@ use kinds::limits::Ranges;
 use model::Status;
 use record::codes::TradeType;
 use reply::{check, rated};
+use units::Amount;
 
 // The rows that an order adds: a trade and its history, and a request for types 3 to 5.
 #[tactic(auto, using(crate::specs::Judge::two_added, crate::specs::Judge::three_added))]

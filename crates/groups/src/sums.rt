@@ -10,13 +10,13 @@ ghost use Rattle.places.specs.Rows.{row_at};
 ghost use Rattle.directory.specs.Listed.{Listed};
 ghost use Rattle.groups.specs.Sums.{AddsSide, HoldsSide, meet, meets};
 
-use kinds::typed::Typed;
 use crate::lots::in_holding;
 use chains::chain::next;
 use chains::group;
 use directory::typed::tax_rate;
 use kinds::limits::Ranges;
 use kinds::rows::{Band, CustomerRate, Lot, TaxRate};
+use kinds::typed::Typed;
 use places::place::{part, record_at};
 use record::codes::Kind;
 use record::row::Grid;

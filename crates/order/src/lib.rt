@@ -13,13 +13,13 @@ ghost use Rattle.reply.specs.Left.{answer_left, book_left};
 
 pub mod post;
 
-use kinds::typed::Typed;
 use crate::post::{answer_row, post};
 use directory::totals::Totals;
 use estimate::figures::estimated;
 use estimate::judge::judge;
 use estimate::terms::terms_of;
 use kinds::inputs::OrderInput;
+use kinds::typed::Typed;
 use model::Status;
 use places::put::put;
 

@@ -16,12 +16,12 @@ ghost use Rattle.result.specs.Ended.{answer_of};
 
 mod post;
 
-use kinds::typed::Typed;
 use crate::post::post;
 use directory::totals::Totals;
 use figures::{Figures, reckoned};
 use kinds::inputs::ResultInput;
 use kinds::rows::Trade;
+use kinds::typed::Typed;
 use model::Status;
 use places::put::put;
 use reading::lots::lots_of;
