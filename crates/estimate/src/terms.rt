@@ -16,9 +16,8 @@ use groups::band;
 use groups::sums::tax_rates;
 use kinds::inputs::OrderInput;
 use kinds::rows::{Account, Charge, Customer, Security};
-use kinds::typed::Typed;
 use model::BandAnswer;
-use places::place::record_at;
+use places::place::typed_at;
 use record::symbol::Symbol;
 use units::{AccountNo, Cents, CustomerNo, ExecutorNo, PerHundredThousand, TradeNo};
 
@@ -55,9 +54,8 @@ fn holder_of(book: &[u8], dir: &[u16], no: AccountNo) -> Holder
     ensures { result ≡ holder_of (rows book.now) no }
 {
     let at = typed::account(book, dir, no);
-    let bytes = record_at(book, at);
     Holder {
-        row: Account::from_bytes(&bytes),
+        row: typed_at(book, at),
         known: at < places(book),
     }
 }
@@ -80,9 +78,8 @@ fn paper_of(book: &[u8], dir: &[u16], symbol: Symbol) -> Paper
     ensures { result ≡ paper_of (rows book.now) symbol }
 {
     let at = typed::security(book, dir, symbol);
-    let bytes = record_at(book, at);
     Paper {
-        row: Security::from_bytes(&bytes),
+        row: typed_at(book, at),
         known: at < places(book),
     }
 }
@@ -91,16 +88,14 @@ fn tier_of(book: &[u8], dir: &[u16], no: CustomerNo) -> u8
     requires { Listed book.now dir.now }
     ensures { result ≡ (found (a_customer no.0) (rows book.now)).form }
 {
-    let bytes = record_at(book, typed::customer(book, dir, no));
-    Customer::from_bytes(&bytes).tier
+    typed_at::<Customer>(book, typed::customer(book, dir, no)).tier
 }
 
 fn charge_of(book: &[u8], dir: &[u16], form: u8, tier: u8) -> Cents
     requires { Listed book.now dir.now }
     ensures { result ≡ cents (pos (found (a_charge form tier) (rows book.now)).n1) }
 {
-    let bytes = record_at(book, typed::charge(book, dir, form, tier));
-    Charge::from_bytes(&bytes).amount
+    typed_at::<Charge>(book, typed::charge(book, dir, form, tier)).amount
 }
 
 pub fn terms_of(book: &[u8], dir: &[u16], t: Totals, input: OrderInput) -> Terms

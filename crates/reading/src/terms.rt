@@ -2,12 +2,10 @@
 // that go by them.
 ghost use Rattle.std.specs.Prelude.{true, ◌≡◌};
 ghost use Rattle.record.specs.Signed.{up};
-ghost use Rattle.kinds.specs.Kinds.{account_of, broker_of, summary_of, trade_of};
 ghost use Rattle.model.specs.Band.{band_answer};
 ghost use Rattle.model.specs.Names.{a_customer, a_security};
 ghost use Rattle.model.specs.Rows.{found, rows};
 ghost use Rattle.model.specs.Sound.{sound};
-ghost use Rattle.places.specs.Rows.{row_at};
 ghost use Rattle.directory.specs.Listed.{Listed};
 ghost use Rattle.reading.specs.Terms.{input_row, places_of, terms_of};
 
@@ -17,9 +15,8 @@ use groups::band;
 use groups::sums::tax_rates;
 use kinds::inputs::ResultInput;
 use kinds::rows::{Account, Broker, Customer, Security, Summary, Trade};
-use kinds::typed::Typed;
 use model::BandAnswer;
-use places::place::record_at;
+use places::place::typed_at;
 use record::symbol::Symbol;
 use units::{CustomerNo, PerHundredThousand, TradeNo};
 
@@ -48,48 +45,18 @@ pub struct Terms {
     pub band: BandAnswer,
 }
 
-fn trade_at(book: &[u8], i: usize) -> Trade
-    ensures { result ≡ trade_of (row_at book.now i) }
-{
-    let record = record_at(book, i);
-    Trade::from_bytes(&record)
-}
-
-fn account_at(book: &[u8], i: usize) -> Account
-    ensures { result ≡ account_of (row_at book.now i) }
-{
-    let record = record_at(book, i);
-    Account::from_bytes(&record)
-}
-
-fn summary_at(book: &[u8], i: usize) -> Summary
-    ensures { result ≡ summary_of (row_at book.now i) }
-{
-    let record = record_at(book, i);
-    Summary::from_bytes(&record)
-}
-
-fn broker_at(book: &[u8], i: usize) -> Broker
-    ensures { result ≡ broker_of (row_at book.now i) }
-{
-    let record = record_at(book, i);
-    Broker::from_bytes(&record)
-}
-
 fn tier(book: &[u8], dir: &[u16], no: CustomerNo) -> u8
     requires { Listed book.now dir.now }
     ensures { result ≡ (found (a_customer no.0) (rows book.now)).form }
 {
-    let record = record_at(book, typed::customer(book, dir, no));
-    Customer::from_bytes(&record).tier
+    typed_at::<Customer>(book, typed::customer(book, dir, no)).tier
 }
 
 fn exchange(book: &[u8], dir: &[u16], symbol: Symbol) -> u8
     requires { Listed book.now dir.now }
     ensures { result ≡ (found (a_security symbol) (rows book.now)).form }
 {
-    let record = record_at(book, typed::security(book, dir, symbol));
-    Security::from_bytes(&record).exchange
+    typed_at::<Security>(book, typed::security(book, dir, symbol)).exchange
 }
 
 // The commission band of a trade of a customer's account.
@@ -109,9 +76,9 @@ fn places_of(book: &[u8], dir: &[u16], no: TradeNo) -> Places
     ensures { result ≡ places_of (rows book.now) no.0 }
 {
     let own = typed::trade(book, dir, no);
-    let trade = trade_at(book, own);
+    let trade = typed_at::<Trade>(book, own);
     let account = typed::account(book, dir, trade.account);
-    let broker = account_at(book, account).broker;
+    let broker = typed_at::<Account>(book, account).broker;
     Places {
         trade: own,
         account,
@@ -127,16 +94,16 @@ pub fn terms_of(book: &[u8], dir: &[u16], input: ResultInput) -> Terms
 {
     let at = places_of(book, dir, input.trade);
     let end = places(book);
-    let trade = trade_at(book, at.trade);
-    let account = account_at(book, at.account);
+    let trade = typed_at::<Trade>(book, at.trade);
+    let account = typed_at::<Account>(book, at.account);
     Terms {
         at,
         known: at.trade < end,
         held: at.summary < end,
         trade,
         account,
-        summary: summary_at(book, at.summary),
-        broker: broker_at(book, at.broker),
+        summary: typed_at(book, at.summary),
+        broker: typed_at(book, at.broker),
         rates: tax_rates(book, dir, account.customer),
         band: band_of(book, dir, trade, account.customer),
     }

@@ -1,5 +1,5 @@
 -- The amount of the record at its place.
-use Rattle.std.proofs.Common.{ap, ◌∙◌, pos}
+use Rattle.std.proofs.Common.{ap, refl, ◌∙◌, pos}
 use Rattle.record.specs.declared.row.Row.{Row}
 use Rattle.kinds.specs.Kinds.{charge_of}
 use Rattle.units.specs.Units.{cents}
@@ -10,5 +10,5 @@ use Rattle.estimate.proofs.terms.charge_of.Goals as goal
 pub returns : goal.returns
 unfolding charge_of
 returns c =
-    ap (λ (x : Charge). x.amount) c.from_bytes.ensures
-    ∙ ap (λ (r : Row). cents (pos r.n1)) (key_row _ _ c.charge.ensures c.record_at-bytes.ensures.1)
+    ap (λ (x : Charge). x.amount) c.typed_at.ensures
+    ∙ ap (λ (r : Row). cents (pos r.n1)) (key_row _ _ c.charge.ensures refl)

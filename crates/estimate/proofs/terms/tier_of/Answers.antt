@@ -1,5 +1,5 @@
 -- The tier of the record at its place.
-use Rattle.std.proofs.Common.{ap, ◌∙◌}
+use Rattle.std.proofs.Common.{ap, refl, ◌∙◌}
 use Rattle.record.specs.declared.row.Row.{Row}
 use Rattle.kinds.specs.Kinds.{customer_of}
 use Rattle.kinds.specs.declared.rows.Customer.{Customer}
@@ -9,5 +9,5 @@ use Rattle.estimate.proofs.terms.tier_of.Goals as goal
 pub returns : goal.returns
 unfolding customer_of
 returns c =
-    ap (λ (x : Customer). x.tier) c.from_bytes.ensures
-    ∙ ap (λ (r : Row). r.form) (key_row _ _ c.customer.ensures c.record_at-bytes.ensures.1)
+    ap (λ (x : Customer). x.tier) c.typed_at.ensures
+    ∙ ap (λ (r : Row). r.form) (key_row _ _ c.customer.ensures refl)

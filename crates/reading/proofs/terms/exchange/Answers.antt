@@ -1,5 +1,5 @@
 -- The exchange of the row of the security's key.
-use Rattle.std.proofs.Common.{ap}
+use Rattle.std.proofs.Common.{ap, refl}
 use Rattle.record.specs.declared.row.Row.{Row}
 use Rattle.kinds.specs.Kinds.{security_of}
 use Rattle.directory.specs.Found.{key_row}
@@ -8,5 +8,5 @@ use Rattle.reading.proofs.terms.exchange.Goals as goal
 pub returns : goal.returns
 unfolding security_of
 returns c =
-    rw c.from_bytes.ensures
-    (ap (λ (r : Row). r.form) (key_row _ _ c.security.ensures c.record_at-record.ensures.1))
+    rw c.typed_at.ensures
+    (ap (λ (r : Row). r.form) (key_row _ _ c.security.ensures refl))

@@ -8,5 +8,5 @@ tax_rates-requires-clause-customer_bound c = rates_most _ _ c.requires.book_valu
 
 pub returns : goal.returns
 returns c =
-    terms_are _ c.args.input c.places_of-at.ensures c.places-end.ensures c.trade_at-trade.ensures
-    c.account_at-account.ensures c.summary_at.ensures c.broker_at.ensures c.tax_rates.ensures c.band_of.ensures
+    terms_are _ c.args.input c.places_of-at.ensures c.places-end.ensures c.typed_at-trade.ensures
+    c.typed_at-account.ensures c.typed_at.ensures c.typed_at-2.ensures c.tax_rates.ensures c.band_of.ensures

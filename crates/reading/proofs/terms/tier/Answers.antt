@@ -1,5 +1,5 @@
 -- The tier of the row of the customer's key.
-use Rattle.std.proofs.Common.{ap}
+use Rattle.std.proofs.Common.{ap, refl}
 use Rattle.record.specs.declared.row.Row.{Row}
 use Rattle.kinds.specs.Kinds.{customer_of}
 use Rattle.directory.specs.Found.{key_row}
@@ -8,5 +8,5 @@ use Rattle.reading.proofs.terms.tier.Goals as goal
 pub returns : goal.returns
 unfolding customer_of
 returns c =
-    rw c.from_bytes.ensures
-    (ap (λ (r : Row). r.form) (key_row _ _ c.customer.ensures c.record_at-record.ensures.1))
+    rw c.typed_at.ensures
+    (ap (λ (r : Row). r.form) (key_row _ _ c.customer.ensures refl))
