@@ -54,6 +54,21 @@ module _ {lengths inputs x : Bool} {s : Status} (decide : List Row → Outcome) 
       → a'' ≡ either (is_done t) a' (refusal_area (length a') t) → Promise (shell lengths inputs decide b a) z b' a''
   decides d f g h l r k = rw (replies, d) (promised (decide (rows b)) b a f g h l r k)
 
+-- ---- what a call comes to behind its checks
+abbrev pub outcome_of : Bool → (List Row → Outcome) → List ℕ → Outcome
+outcome_of inputs decide b =
+    pick (is_done (opening inputs b)) (decide (rows b)) (refused (opening inputs b) (rows b))
+
+module _ (inputs : Bool) (decide : List Row → Outcome) (b a : List ℕ) where
+  abbrev its : Outcome
+  its = outcome_of inputs decide b
+
+  -- the end is the reply of the rules
+  pub ends : {lengths : Bool} {t : Status} {b' a' a'' : List ℕ} {z : ℤ} → lengths ≡ true → t ≡ its.status
+      → b' ≡ book_left its b → a' ≡ answer_left its a → length a' ≡ length a → z ≡ number t
+      → a'' ≡ either (is_done t) a' (refusal_area (length a') t) → Promise (shell lengths inputs decide b a) z b' a''
+  ends e f g h l r k = rw (replies decide b a e refl refl) (promised its b a f g h l r k)
+
 pub long_both : {x : Bool} (a : List ℕ) {n : ℕ} → x ≡ true → length a ≡ n → (x && eqb (length a) n) ≡ true
 long_both {x} a {n} e l = and_both x (eqb (length a) n) e (eq-eqb (length a) n l)
 
@@ -78,7 +93,14 @@ abbrev pub call_of : Call → List ℕ → List ℕ → List ℕ → Reply
 call_of call b input a =
     shell (long_of call (length input) && eqb (length a) record_size) (fields_of call input) (decide_of call input) b a
 
+-- what such a call comes to, with its checks
+abbrev pub whole_of : Call → List ℕ → List ℕ → Outcome
+whole_of call input b = outcome_of (fields_of call input) (decide_of call input) b
+
 -- ---- lookup
+abbrev pub lookup_of : List ℕ → List ℕ → Outcome
+lookup_of input b = outcome_of (every lookup_input (rows input)) (λ rs. lookup rs (rows input)) b
+
 some : (most n : ℕ) → whole_records most n ≡ true → 64 ≤ n
 unfolding whole_records
 some most n e =
@@ -103,3 +125,12 @@ unfolding run replied book_left
 lookup_left b input a y e i p d =
     sym (lookup_keeps b input a y)
     ∙ ap (λ (r : Reply). r.book) (rw d at (replies (λ rs. lookup rs (rows input)) b a e i p))
+
+-- and so does one that its checks refuse
+pub lookup_leaves : (b input a : List ℕ) → Bytes b
+    → (whole_records most_inputs (length input) && eqb (length a) (2 * length input)) ≡ true
+    → b ≡ book_left (lookup_of input b) b
+unfolding run replied book_left
+lookup_leaves b input a y e =
+    sym (lookup_keeps b input a y)
+    ∙ ap (λ (r : Reply). r.book) (replies (λ rs. lookup rs (rows input)) b a e refl refl)
