@@ -1,5 +1,5 @@
 -- The rule of the entry is the table's by computation.
-use Rattle.std.proofs.Common.{refl, arith}
+use Rattle.std.proofs.Common.{refl}
 use Rattle.record.specs.Spelling.{symbol_ok}
 use Rattle.rules.specs.Beyond.{in_two}
 use Rattle.rules.specs.Rules.{lookup_input_shape}
@@ -7,7 +7,7 @@ use Rattle.inputs.proofs.lookup.Goals as goal
 
 pub beyond-requires : goal.beyond-requires
 unfolding symbol_ok
-beyond-requires c = (omega arith, omega arith, refl)
+beyond-requires c = refl
 
 pub returns : goal.returns
 unfolding lookup_input_shape
