@@ -1,2 +1,3 @@
+pub mod Ending
 pub mod Left
 pub mod Refusal

@@ -1,12 +1,13 @@
 // How a call ends: the first check that fails, the number of its status, and the answer of a refusal.
 #![tactic(auto)]
 
-ghost use Rattle.std.specs.Prelude.{◌≡◌, Bool, not, ◌≤◌, length, replicate};
+ghost use Rattle.std.specs.Prelude.{◌≡◌, Bool, true, false, not, ◌≤◌, length, replicate, MatchResult};
 ghost use Rattle.model.specs.Band.{no_band as has_no_band, zero_rate};
 ghost use Rattle.model.specs.Status.{is_done, number};
 ghost use Rattle.model.specs.Call.{either, refusal_area};
 ghost use Rattle.model.specs.Rows.{record_size};
 ghost use Rattle.model.specs.Plan.{also};
+ghost use Rattle.reply.specs.Ending.{Refuses, ended};
 ghost use Rattle.reply.specs.Refusal.{refusal};
 
 use directory::totals::Totals;
@@ -23,7 +24,7 @@ pub struct Ended {
     pub totals: Totals,
 }
 
-// The number of a status.
+// The number of a status. `From` could be implemented only beside `Status`, in `model`, where nothing runs.
 pub fn code(s: Status) -> i32
     ensures { result ≡ number s }
 {
@@ -53,6 +54,7 @@ pub fn code(s: Status) -> i32
 }
 
 // The row that has the status and nothing else.
+#[tactic(auto, using(facts::specs::Status::number_back), unfolding(crate::specs::Refusal::refusal))]
 fn refusal(s: Status) -> Row
     ensures { result ≡ refusal s }
 {
@@ -61,21 +63,12 @@ fn refusal(s: Status) -> Row
     row
 }
 
-fn clear(area: &mut [u8])
-    ensures { area.new ≡ replicate (length area.old) 0 }
-{
-    let mut i = 0;
-    while i < area.len() {
-        area[i] = 0;
-        i += 1;
-    }
-}
-
+#[tactic(auto, using(crate::specs::Refusal::refusal_put))]
 fn refuse(area: &mut [u8], s: Status)
     requires { record_size ≤ length area.old }
     ensures { area.new ≡ refusal_area (length area.old) s }
 {
-    clear(area);
+    area.fill(0);
     put(area, 0, refusal(s));
 }
 
@@ -104,15 +97,44 @@ pub fn also_rated(s: Status, band: BandAnswer, no_rate: Status, no_band: Status)
     }
 }
 
-// The end of a call: a refusal writes its status and zeros over whatever the answer area holds.
-pub fn finish(area: &mut [u8], s: Status) -> i32
-    requires { record_size ≤ length area.old }
-    ensures value { result ≡ number s }
-    ensures area_after { area.new ≡ either (is_done s) area.old (refusal_area (length area.old) s) }
+// One check of a call, which refuses it where it fails.
+#[tactic(auto, unfolding(model::specs::Plan::also))]
+pub fn check(passes: bool, otherwise: Status) -> Result<(), Status>
+    requires { is_done otherwise ≡ false }
+    ensures value { ended result ≡ also Status.Done passes otherwise }
+    ensures refusal { Refuses result }
+    ensures cases { MatchResult result (λ _. passes ≡ true) (λ _. passes ≡ false) }
 {
-    if done(s) {
-        return code(s);
+    if passes { Ok(()) } else { Err(otherwise) }
+}
+
+// What the search for a band answered: a rate of zero and no band each refuse with their own status.
+#[tactic(auto, unfolding(model::specs::Plan::also))]
+pub fn rated(band: BandAnswer, no_rate: Status, no_band: Status) -> Result<(), Status>
+    requires { (is_done no_rate ≡ false) × (is_done no_band ≡ false) }
+    ensures value { ended result
+        ≡ also (also Status.Done (not (zero_rate band)) no_rate) (not (has_no_band band)) no_band }
+    ensures refusal { Refuses result }
+{
+    match band {
+        BandAnswer::Rate(_) => Ok(()),
+        BandAnswer::ZeroRate => Err(no_rate),
+        BandAnswer::NoBand => Err(no_band),
     }
-    refuse(area, s);
-    code(s)
+}
+
+// The end of a call, and its number: a refusal writes its status and zeros over whatever the answer area holds.
+pub fn finish<T: Copy>(area: &mut [u8], outcome: Result<T, Status>) -> i32
+    requires { record_size ≤ length area.old }
+    ensures value { result ≡ number (ended outcome) }
+    ensures area_after { MatchResult outcome (λ _. area.new ≡ area.old)
+        (λ s. area.new ≡ refusal_area (length area.old) s) }
+{
+    match outcome {
+        Ok(_) => code(Status::Done),
+        Err(s) => {
+            refuse(area, s);
+            code(s)
+        }
+    }
 }
