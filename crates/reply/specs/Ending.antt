@@ -26,6 +26,6 @@ module _ {A : Type 0} where
   finished (Err s) a a' n h = h ∙ rw n
 
 -- what is refused stays so, whatever the next check says
-pub also_refused : (s : Status) (passes : Bool) (otherwise : Status) → is_done s ≡ false → also s passes otherwise ≡ s
+pub stays : (s : Status) (passes : Bool) (otherwise : Status) → is_done s ≡ false → also s passes otherwise ≡ s
 unfolding also
-also_refused s passes otherwise n = rw n
+stays s passes otherwise n = rw n
