@@ -103,7 +103,7 @@ pub fn check(passes: bool, otherwise: Status) -> Result<(), Status>
     requires { is_done otherwise ≡ false }
     ensures value { ended result ≡ also Status.Done passes otherwise }
     ensures refusal { Refuses result }
-    ensures cases { MatchResult result (λ _. passes ≡ true) (λ _. passes ≡ false) }
+    ensures cases { MatchResult result (λ _. passes ≡ true) (λ s. (passes ≡ false) × (s ≡ otherwise)) }
 {
     if passes { Ok(()) } else { Err(otherwise) }
 }
