@@ -1,6 +1,6 @@
 -- One turn of the loop over the rows of a kind that hang on a trade: a row is well and its slot is free, and so is
 -- marked; or the book is not sound. In a sound book no two rows have one slot. Assumes nothing.
-use Rattle.std.specs.Prelude.{◌≡◌, refl, Bool, true, false, not, List, ℕ, ◌+◌, ◌*◌, ◌/◌, ◌≤◌, ◌<◌, eqb, ltb, length, get_or, set, replicate}
+use Rattle.std.specs.Prelude.{Option, Some, None, ◌≡◌, refl, Bool, true, false, not, List, ℕ, ◌+◌, ◌*◌, ◌/◌, ◌≤◌, ◌<◌, eqb, ltb, length, get_or, set, replicate}
 use Rattle.std.proofs.Math.Path.{sym}
 use Rattle.std.proofs.Common.{ap, ◌∙◌, length-set}
 use Rattle.std.proofs.Math.Bool.{false≢true}
@@ -46,6 +46,21 @@ pub record Hangs (b m : List ℕ) (i s : ℕ) : Type 0 where
 pub record Hanged (b m : List ℕ) (i s : ℕ) : Type 0 where
   pub yes : s < no_slot → Hangs b m i s
   pub no : no_slot ≤ s → sound (rows b) ≡ false
+
+-- the same of a slot that there may not be
+abbrev pub SlotAt : List ℕ → List ℕ → ℕ → Option ℕ → Type 0
+SlotAt b m i (Some s) = (s < no_slot) × Hangs b m i s
+SlotAt b m i None = sound (rows b) ≡ false
+
+module _ {b m : List ℕ} {i : ℕ} where
+  pub no_slot_at : Hanged b m i no_slot → SlotAt b m i None
+  no_slot_at h = h.no (omega arith)
+
+  pub one_slot_at : {s : ℕ} → Hanged b m i s → s < no_slot → SlotAt b m i (Some s)
+  one_slot_at h low = (low, h.yes low)
+
+  pub slot_taken : {s : ℕ} → SlotAt b m i (Some s) → Hanged b m i s
+  slot_taken h = record { yes = λ low. h.1; no = λ high. absurd (let low = h.0 in omega arith) }
 
 hung_free : (a : Row) → hangs a ≡ true → a.kind ≡ kind_free → ⊥
 hung_free a h e = false≢true (ap (λ (k : ℕ). among k hung_kinds) (sym e) ∙ h)

@@ -3,7 +3,6 @@
 #![tactic(auto)]
 
 ghost use Rattle.std.specs.Prelude.{◌≡◌, true, ◌+◌, ◌*◌, ◌<◌};
-ghost use Rattle.laws.specs.Search.{bit};
 ghost use Rattle.record.specs.Codes.{kind_trade};
 ghost use Rattle.keys.specs.Key.{among};
 ghost use Rattle.model.specs.Rows.{places, rows};
@@ -16,9 +15,9 @@ ghost use Rattle.by_kind.specs.Kinds.{KindFits, KindWell, TradesHung};
 ghost use Rattle.by_kind.specs.Hung.{hung};
 ghost use Rattle.by_kind.specs.Says.{Says};
 ghost use Rattle.hanging.specs.Slots.{MarkedTo, all_past};
-ghost use Rattle.hanging.specs.Turn.{Hanged};
+ghost use Rattle.hanging.specs.Turn.{SlotAt};
 
-use by_kind::chain::{first, next};
+use by_kind::chain::{every, first, next};
 use clauses::hung::{fits_trade, offset};
 use directory::typed::trade;
 use fields::fits_beside;
@@ -36,39 +35,37 @@ pub struct Marks {}
 
 impl Marks {
     pub const EACH: usize = 8;
-
-    // As many as any book has: no mark's number.
-    pub const NONE: usize = 32_768;
 }
 
-// The slot of the row at i where that is well and no row before it has the slot, else no mark's number. Its symbol is
-// mostly that of its trade, which fits, so that it is spelled right.
-fn slot_at(book: &[u8], dir: &[u16], marks: &[u8], kind: u8, i: usize) -> usize
+// The slot of the row at i where that is well and no row before it has the slot. Its symbol is mostly that of its trade,
+// which fits, so that it is spelled right.
+fn slot_at(book: &[u8], dir: &[u16], marks: &[u8], kind: u8, i: usize) -> Option<usize>
     requires listed { Listed book.now dir.now }
     requires i_bound { (i < places book.now) × (hangs (row_at book.now i) ≡ true) × ((row_at book.now i).kind ≡ kind) }
     requires marked_to { MarkedTo book.now ((row_at book.now i).kind * 4096 + i) marks.now }
     requires kind_fits { KindFits book.now kind_trade }
-    ensures { Hanged book.now marks.now i result }
+    ensures { SlotAt book.now marks.now i result }
 {
     let p = trade(book, dir, TradeNo(row_at(book, i).id));
     if book.len() / Grid::SIZE <= p {
-        return Marks::NONE;
+        return None;
     }
     let t = Trade::from_bytes(part(book, p));
     if !fits_beside(part(book, i), t.symbol) {
-        return Marks::NONE;
+        return None;
     }
     if !fits_trade(book, dir, kind, p, i) {
-        return Marks::NONE;
+        return None;
     }
     let s = p * Marks::EACH + offset(book, kind, i);
     if marks[s] != 0 {
-        return Marks::NONE;
+        return None;
     }
-    s
+    Some(s)
 }
 
-// S1, S2 and the rule of a row by its trade, for every row of a kind that hangs on a trade; and they are marked.
+// S1, S2 and the rule of a row by its trade, for every row of a kind that hangs on a trade; and they are marked. The walk
+// is written out: of marks that a test would write nothing would be known behind it.
 pub fn hang(book: &[u8], dir: &[u16], links: &[u16], marks: &mut [u8], kind: u8) -> bool
     requires listed { Listed book.now dir.now }
     requires by_kind { ByKind book.now links.now 0 }
@@ -81,10 +78,9 @@ pub fn hang(book: &[u8], dir: &[u16], links: &[u16], marks: &mut [u8], kind: u8)
     let n = book.len() / Grid::SIZE;
     let mut c = first(links, kind);
     while c < n {
-        let s = slot_at(book, dir, marks, kind, c);
-        if Marks::NONE <= s {
+        let Some(s) = slot_at(book, dir, marks, kind, c) else {
             return false;
-        }
+        };
         marks[s] = 1;
         c = next(links, c);
     }
@@ -113,20 +109,12 @@ fn hung_at(book: &[u8], marks: &[u8], i: usize) -> bool
         & (cash == u8::from(done & (t.flags % 2 == 1)))
 }
 
+// The same for each trade.
 pub fn hung(book: &[u8], links: &[u16], marks: &[u8]) -> bool
     requires book_value { (s1 (rows book.now) ≡ true) × (s2 (rows book.now) ≡ true) }
     requires by_kind { ByKind book.now links.now 0 }
     requires marked_to { MarkedTo book.now all_past marks.now }
     ensures { Says result (TradesHung book.now) (sound (rows book.now)) }
 {
-    let n = book.len() / Grid::SIZE;
-    let mut c = first(links, Kind::TRADE);
-    while c < n {
-        if hung_at(book, marks, c) {
-            c = next(links, c);
-        } else {
-            return false;
-        }
-    }
-    true
+    every(book, links, Kind::TRADE, |i| hung_at(book, marks, i))
 }
