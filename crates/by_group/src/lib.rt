@@ -44,12 +44,10 @@ pub fn held(book: &[u8], dir: &[u16], p: usize, i: usize) -> bool
 {
     let t = Trade::from_bytes(part(book, p));
     let l = Lot::from_bytes(part(book, i));
-    let symbol = t.symbol;
-    let own = l.symbol;
-    let at = typed::summary(book, dir, l.account, own);
+    let at = typed::summary(book, dir, l.account, l.symbol);
     (t.status == TradeStatus::COMPLETED)
-        & (t.account.0 == l.account.0)
-        & (symbol == own)
+        & (t.account == l.account)
+        & (t.symbol == l.symbol)
         & (at < book.len() / Grid::SIZE)
 }
 

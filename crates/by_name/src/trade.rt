@@ -13,7 +13,7 @@ ghost use Rattle.by_group.specs.Rules.{as_asked, same_terms};
 use directory::typed;
 use kinds::rows::{Account, Cash, LotHistory, Request, Settlement, Trade};
 use kinds::typed::Typed;
-use places::place::{part, record_at};
+use places::place::{part, typed_at};
 use record::codes::TradeStatus;
 use units::{AccountNo, Amount, BrokerNo, TradeNo};
 
@@ -22,8 +22,7 @@ fn broker_of(book: &[u8], dir: &[u16], no: AccountNo) -> BrokerNo
     requires { Listed book.now dir.now }
     ensures { result.0 ≡ (found (an_account no.0) (rows book.now)).n1 }
 {
-    let bytes = record_at(book, typed::account(book, dir, no));
-    Account::from_bytes(&bytes).broker
+    typed_at::<Account>(book, typed::account(book, dir, no)).broker
 }
 
 // The status of a trade, 0 where there is no such trade.
@@ -31,22 +30,18 @@ fn status_of(book: &[u8], dir: &[u16], no: TradeNo) -> u8
     requires { Listed book.now dir.now }
     ensures { result ≡ (found (a_trade no.0) (rows book.now)).status }
 {
-    let bytes = record_at(book, typed::trade(book, dir, no));
-    Trade::from_bytes(&bytes).status
+    typed_at::<Trade>(book, typed::trade(book, dir, no)).status
 }
 
+#[tactic(auto, unfolding(record::specs::Symbol::same_symbol))]
 fn agrees(broker: BrokerNo, t: Trade, q: Request) -> bool
     ensures { result ≡ same_terms broker.0 t q }
 {
-    let symbol = t.symbol;
-    let shares = t.shares;
-    let own = q.symbol;
-    let asked = q.shares;
     (q.trade_type == t.trade_type)
-        & (own == symbol)
-        & (asked.plain() == shares.plain())
-        & (q.bid.0 == t.bid.0)
-        & (q.broker.0 == broker.0)
+        & (q.symbol == t.symbol)
+        & (q.shares.plain() == t.shares.plain())
+        & (q.bid == t.bid)
+        & (q.broker == broker)
 }
 
 // The request at i is of a pending trade, the one at p, and agrees with it.
@@ -79,11 +74,8 @@ pub fn due(book: &[u8], dir: &[u16], i: usize) -> bool
     ensures { result ≡ cash_right (rows book.now) (row_at book.now i) }
 {
     let c = Cash::from_bytes(part(book, i));
-    let bytes = record_at(book, typed::settlement(book, dir, c.no));
-    let s = Settlement::from_bytes(&bytes);
-    let amount = s.amount;
-    let own = c.amount;
-    (s.cash == 1) & (amount.bits() == own.bits())
+    let s = typed_at::<Settlement>(book, typed::settlement(book, dir, c.no));
+    (s.cash == 1) & (s.amount.bits() == c.amount.bits())
 }
 
 // The trades that the lot history at a place names are completed.

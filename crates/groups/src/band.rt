@@ -13,7 +13,7 @@ use directory::build::places;
 use kinds::rows::Band;
 use kinds::typed::Typed;
 use model::BandAnswer;
-use places::place::{part, record_at};
+use places::place::{part, typed_at};
 use record::codes::Kind;
 use record::row::Grid;
 use units::{Amount, PerTenThousand, Shares};
@@ -77,8 +77,7 @@ pub fn search(
 {
     let at = band(book, dir, form, tier, exchange, shares);
     if at < places(book) {
-        let bytes = record_at(book, at);
-        return rated(Band::from_bytes(&bytes).rate);
+        return rated(typed_at::<Band>(book, at).rate);
     }
     BandAnswer::NoBand
 }

@@ -18,11 +18,11 @@ use record::symbol::Symbol;
 use units::AccountNo;
 
 // A lot is of an account and symbol.
+#[tactic(auto, unfolding(record::specs::Symbol::same_symbol))]
 pub fn in_holding(account: AccountNo, symbol: Symbol, lot: Lot) -> bool
     ensures { result ≡ (eqb lot.account.0 account.0 && same_symbol lot.symbol symbol) }
 {
-    let own = lot.symbol;
-    (lot.account.0 == account.0) & (own == symbol)
+    (lot.account == account) & (lot.symbol == symbol)
 }
 
 // The record at a place is a lot of an account and symbol.

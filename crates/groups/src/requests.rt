@@ -22,8 +22,7 @@ pub fn asked(book: &[u8], symbol: Symbol, at: usize) -> bool
 {
     let record = part(book, at);
     let request = Request::from_bytes(record);
-    let own = request.symbol;
-    (record[Grid::KIND] == Kind::REQUEST) & (own == symbol)
+    (record[Grid::KIND] == Kind::REQUEST) & (request.symbol == symbol)
 }
 
 // The place of the first request, the number of places where there is none.

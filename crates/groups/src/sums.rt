@@ -17,7 +17,7 @@ use directory::typed::tax_rate;
 use kinds::limits::Ranges;
 use kinds::rows::{Band, CustomerRate, Lot, TaxRate};
 use kinds::typed::Typed;
-use places::place::{part, record_at};
+use places::place::{part, typed_at};
 use record::codes::Kind;
 use record::row::Grid;
 use record::symbol::Symbol;
@@ -100,8 +100,7 @@ fn rate(book: &[u8], dir: &[u16], customer: CustomerNo, at: usize) -> PerHundred
     let record = part(book, at);
     let named = CustomerRate::from_bytes(record);
     if (record[Grid::KIND] == Kind::CUSTOMER_RATE) & (named.customer.0 == customer.0) {
-        let bytes = record_at(book, tax_rate(book, dir, named.rate));
-        return TaxRate::from_bytes(&bytes).rate;
+        return typed_at::<TaxRate>(book, tax_rate(book, dir, named.rate)).rate;
     }
     PerHundredThousand(0)
 }
