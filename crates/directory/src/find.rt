@@ -20,15 +20,13 @@ fn has(m: Marks, key: Key, row: Row) -> bool
     requires { (m ≡ marks_of key.kind all_keys) × (trimmed key ≡ key) }
     ensures { result ≡ has_key key row }
 {
-    let own = row.symbol;
-    let asked = key.symbol;
     (row.kind == key.kind)
         & (!m.form | (row.form == key.form))
         & (!m.status | (row.status == key.status))
         & (!m.flags | (row.flags == key.flags))
         & (!m.party | (row.party == key.party))
         & (!m.id | (row.id == key.id))
-        & (!m.symbol | (own == asked))
+        & (!m.symbol | (row.symbol == key.symbol))
         & (!m.n1 | (row.n1 == key.n1))
         & (!m.m2 | (row.m2 == key.m2))
 }

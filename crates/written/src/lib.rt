@@ -28,55 +28,45 @@ pub fn lot_history(lot: TradeNo, by: TradeNo, before: Shares, after: Shares) -> 
     requires { (nat_abs before.0 ≤ shares_most) × (nat_abs after.0 ≤ shares_most) }
     ensures { result ≡ lot_history lot.0 by.0 before.0 after.0 }
 {
-    let history = LotHistory {
+    Row::from(LotHistory {
         lot,
         by,
         before,
         after,
-    };
-    Row::from(history)
+    })
 }
 
 pub fn new_lot(trade: Trade, price: Price, shares: Shares, time: Time) -> Row
     ensures { result ≡ new_lot (trade_row trade) price.0 shares.0 time.0 }
 {
-    let no = trade.no;
-    let account = trade.account;
-    let symbol = trade.symbol;
-    let lot = Lot {
-        no,
-        account,
-        symbol,
+    Row::from(Lot {
+        no: trade.no,
+        account: trade.account,
+        symbol: trade.symbol,
         price,
         shares,
         time,
-    };
-    Row::from(lot)
+    })
 }
 
 pub fn new_summary(trade: Trade, shares: Shares) -> Row
     ensures { result ≡ new_summary (trade_row trade) shares.0 }
 {
-    let account = trade.account;
-    let symbol = trade.symbol;
-    let summary = Summary {
-        account,
-        symbol,
+    Row::from(Summary {
+        account: trade.account,
+        symbol: trade.symbol,
         shares,
-    };
-    Row::from(summary)
+    })
 }
 
 pub fn history_row(trade: Trade, time: Time) -> Row
     ensures { result ≡ history_row completed (trade_row trade).id time.0 }
 {
-    let no = trade.no;
-    let history = TradeHistory {
-        no,
+    Row::from(TradeHistory {
+        no: trade.no,
         status: TradeStatus::COMPLETED,
         time,
-    };
-    Row::from(history)
+    })
 }
 
 // Of the trade's flags it keeps cash alone.
@@ -84,22 +74,22 @@ pub fn settlement_row(trade: Trade, amount: Cents, time: Time) -> Row
     requires { time.0 ≤ time_most }
     ensures { result ≡ settlement_row (trade_row trade) amount.0 time.0 }
 {
-    let no = trade.no;
-    let settlement = Settlement {
-        no,
+    Row::from(Settlement {
+        no: trade.no,
         cash: trade.flags % 2,
         amount,
         due: Time(time.0 + Ranges::SETTLEMENT_SECONDS),
-    };
-    Row::from(settlement)
+    })
 }
 
 pub fn cash_row(trade: Trade, amount: Cents, time: Time) -> Row
     ensures { result ≡ cash_row (trade_row trade) amount.0 time.0 }
 {
-    let no = trade.no;
-    let cash = Cash { no, amount, time };
-    Row::from(cash)
+    Row::from(Cash {
+        no: trade.no,
+        amount,
+        time,
+    })
 }
 
 pub fn trade_after(trade: Trade, input: ResultInput, commission: Cents, tax: Cents) -> Row
@@ -107,15 +97,14 @@ pub fn trade_after(trade: Trade, input: ResultInput, commission: Cents, tax: Cen
     ensures { result ≡ trade_after (trade_row trade) input.price.0 (up commission.0) (up tax.0)
         input.time.0 }
 {
-    let price = input.price;
-    let time = input.time;
-    let mut t = trade;
-    t.status = TradeStatus::COMPLETED;
-    t.price = price;
-    t.commission = commission;
-    t.tax = tax;
-    t.time = time;
-    Row::from(t)
+    Row::from(Trade {
+        status: TradeStatus::COMPLETED,
+        price: input.price,
+        commission,
+        tax,
+        time: input.time,
+        ..trade
+    })
 }
 
 pub fn broker_after(broker: Broker, commission: Cents) -> Row
@@ -123,51 +112,43 @@ pub fn broker_after(broker: Broker, commission: Cents) -> Row
     requires trades_bound { broker.trades + 1 ≤ broker_trades.high }
     ensures { result ≡ broker_after (broker_row broker) (up commission.0) }
 {
-    let total = broker.commission;
-    let sum = total.plus(commission);
-    let mut b = broker;
-    b.trades += 1;
-    b.commission = sum;
-    Row::from(b)
+    let after = Broker {
+        trades: broker.trades + 1,
+        commission: broker.commission.plus(commission),
+        ..broker
+    };
+    Row::from(after)
 }
 
 pub fn account_after(account: Account, balance: Cents) -> Row
     ensures { result ≡ holding (account_row account) balance.0 }
 {
-    let mut a = account;
-    a.balance = balance;
-    Row::from(a)
+    Row::from(Account { balance, ..account })
 }
 
 pub fn summary_after(summary: Summary, shares: Shares) -> Row
     ensures { result ≡ holding (summary_row summary) shares.0 }
 {
-    let mut s = summary;
-    s.shares = shares;
-    Row::from(s)
+    Row::from(Summary { shares, ..summary })
 }
 
 pub fn lot_after(lot: Lot, shares: Shares) -> Row
     ensures { result ≡ holding (lot_row lot) shares.0 }
 {
-    let mut l = lot;
-    l.shares = shares;
-    Row::from(l)
+    Row::from(Lot { shares, ..lot })
 }
 
 pub fn answer_row(trade: Trade, figures: Figures) -> Row
     ensures { result ≡ answer_row (trade_row trade) (up figures.tax.0) figures.balance.0
         figures.settlement.0 }
 {
-    let tax = figures.tax;
-    let balance = figures.balance;
-    let settlement = figures.settlement;
-    let mut a = nothing();
-    a.kind = Kind::RESULT;
-    a.party = trade.account.0;
-    a.id = trade.no.0;
-    a.symbol = Symbol::holding(tax.plain());
-    a.m1 = balance.bits();
-    a.m2 = settlement.bits();
-    a
+    Row {
+        kind: Kind::RESULT,
+        party: trade.account.0,
+        id: trade.no.0,
+        symbol: Symbol::holding(figures.tax.plain()),
+        m1: figures.balance.bits(),
+        m2: figures.settlement.bits(),
+        ..nothing()
+    }
 }

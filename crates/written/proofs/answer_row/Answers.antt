@@ -6,8 +6,8 @@ pub returns : goal.returns
 unfolding trade_row
 returns c =
     rw (
-      c.nothing-a.ensures,
-      c.holding-a.ensures,
+      c.nothing.ensures,
+      c.holding.ensures,
       c.plain.ensures.value,
       c.bits.ensures,
       c.bits-2.ensures,

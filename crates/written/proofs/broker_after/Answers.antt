@@ -11,6 +11,6 @@ returns c =
     let pre = c.requires.up_to in
     rw (
       c.from.ensures,
-      c.plus-sum.ensures.value,
+      c.plus.ensures.value,
       sum_bits v.broker.commission.0 v.commission.0 pre.0 pre.1 (omega arith),
     )
