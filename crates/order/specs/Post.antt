@@ -1,5 +1,5 @@
 -- The rows that an order adds and the one that it answers, of what it read and worked out. Assumes nothing.
-use Rattle.std.specs.Prelude.{◌≡◌, refl, Bool, true, false, cond, List, [], ◌∷◌, ℕ, suc, ◌%◌, ◌≤◌, ◌<◌, leb, pos, length}
+use Rattle.std.specs.Prelude.{◌≡◌, refl, Bool, true, false, cond, List, [], ◌∷◌, ℕ, suc, ◌%◌, ◌≤◌, ◌<◌, ◌+◌, leb, max, pos, length, set}
 use Rattle.std.proofs.Common.{sym, ◌∙◌, arith, of_z, le-leb}
 use Rattle.std.proofs.Math.Path.{ap}
 use Rattle.std.specs.Int.{w64}
@@ -12,9 +12,10 @@ use Rattle.kinds.specs.Written.{request_row, trade_history_row, trade_row}
 use Rattle.kinds.specs.declared.inputs.OrderInput.{OrderInput}
 use Rattle.model.specs.Band.{commission_rate}
 use Rattle.model.specs.Flags.{roll_back}
-use Rattle.model.specs.Order.{answer_row}
+use Rattle.model.specs.Order.{answer_row, trade_id}
 use Rattle.model.specs.Rows.{is, nothing, rows, same_row}
-use Rattle.upkeep.specs.Added.{Added, Room, room_first, room_next}
+use Rattle.places.specs.Rows.{free_from, put_at}
+use Rattle.upkeep.specs.Added.{Added, Room, added_one, room_first, room_next}
 use Rattle.directory.specs.Directory.{Directory}
 use Rattle.directory.specs.declared.totals.Totals.{Totals}
 use Rattle.estimate.specs.declared.figures.Estimate.{Estimate}
@@ -110,6 +111,14 @@ module _ {w ks : List Row} {x : Row} {b d : List ℕ} {n : Totals} (s : Left w (
     leads = ap (fill same_row nothing ks) a.filled ∙ s.leads;
   }
 
+-- the row is added as `add` promises
+module _ {w ks : List Row} {x r : Row} {b d : List ℕ} {n : Totals} (s : Left w (x ∷ ks) b d n)
+    (live : is kind_free x ≡ false) (e : r ≡ x) where
+  pub left_after : {b' d' : List ℕ} {n' : Totals}
+      → (let p = free_from (rows b) 0 in (b' ≡ put_at b p r) × (rows b' ≡ set (rows b) p r)) → Directory b' d' n'
+      → (n'.free + 1 ≡ n.free) × (n'.largest.0 ≡ max n.largest.0 (trade_id r)) → Left w ks b' d' n'
+  left_after f g h = left_next s (added_one (left_one s) live e (f, (g, h)))
+
 pub left_done : {w hs : List Row} {b d : List ℕ} {n : Totals} → Left w hs b d n → hs ≡ [] → rows b ≡ w
 unfolding fill
 left_done s e = rw e at s.leads
@@ -132,6 +141,27 @@ module _ (i : OrderInput) (t : Terms) (e : Estimate) where
   pub waits : {w : List Row} {b d : List ℕ} {n : Totals} → tms < i.trade_type → Left w (waiting i t e) b d n
       → Left w (request_of i t e ∷ []) b d n
   waits h s = rw (lt-leb i.trade_type tms h) at s
+
+  -- the trade and its history are added
+  pub two_added : {b d : List ℕ} {n : Totals} {r h : Row} {b₁ d₁ b₂ d₂ : List ℕ} {n₁ n₂ : Totals}
+      → Room (added_of i t e) b d n
+      → r ≡ trade_of i t e
+      → (let p = free_from (rows b) 0 in (b₁ ≡ put_at b p r) × (rows b₁ ≡ set (rows b) p r)) → Directory b₁ d₁ n₁
+      → (n₁.free + 1 ≡ n.free) × (n₁.largest.0 ≡ max n.largest.0 (trade_id r))
+      → h ≡ history_of i t
+      → (let p = free_from (rows b₁) 0 in (b₂ ≡ put_at b₁ p h) × (rows b₂ ≡ set (rows b₁) p h)) → Directory b₂ d₂ n₂
+      → (n₂.free + 1 ≡ n₁.free) × (n₂.largest.0 ≡ max n₁.largest.0 (trade_id h))
+      → Left (fill same_row nothing (added_of i t e) (rows b)) (waiting i t e) b₂ d₂ n₂
+  two_added s f a g h k l m o =
+      left_after (left_after (left_start s) (live_trade i t e) f a g h) (live_history i t) k l m o
+
+  module _ (rs : List Row) {x : Bool} (r : x ≡ roll_back i.flags) (y : x ≡ false) {b d : List ℕ} {n : Totals} where
+    pub all_now : i.trade_type ≤ tms → Left (fill same_row nothing (added_of i t e) rs) (waiting i t e) b d n
+        → rows b ≡ rows_after rs i t e
+    all_now h s = left_done s (submitted_now h) ∙ all_added i t e r y rs
+
+    pub all_asked : Left (fill same_row nothing (added_of i t e) rs) [] b d n → rows b ≡ rows_after rs i t e
+    all_asked s = left_done s refl ∙ all_added i t e r y rs
 
   -- three rows at most
   pub added_length : length (added_of i t e) ≡ rows_added i
