@@ -1,15 +1,17 @@
 // A record handed to its checker, not at the front of its area and with other bytes around it.
 ghost use Rattle.std.specs.Prelude.{◌≡◌, ◌+◌, ◌≤◌, length};
 
+use record::codes::Kind;
+
 // The checker of the inputs of a kind, or of rows.
 fn judged(kind: u8, part: &[u8]) -> bool
     requires { length part.now ≡ 64 }
 {
     match kind {
-        33 => inputs::is_order(part),
-        34 => inputs::is_result(part),
-        35 => inputs::all_feed(part),
-        36 => inputs::all_lookup(part),
+        Kind::ORDER => inputs::is_order(part),
+        Kind::RESULT => inputs::is_result(part),
+        Kind::FEED => inputs::all_feed(part),
+        Kind::LOOKUP => inputs::all_lookup(part),
         _ => fields::fits(part),
     }
 }

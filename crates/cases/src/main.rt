@@ -101,7 +101,7 @@ fn run(rt: &impl Print, text: &[u8]) {
 const MOST_TEXT: usize = 65_536;
 
 // Reads until the area is full or the input ends, and answers how many bytes it put there. A read that fails ends the
-// input.
+// input: `read_exact` would try again where it was interrupted, and fails where the input is shorter.
 fn read_full<R: Read>(input: &mut R, area: &mut [u8]) -> usize
     ensures { result ≤ length area.new }
 {

@@ -17,7 +17,7 @@ pub fn find(text: &[u8], from: usize, end: usize, b: u8) -> usize
 fn digit(b: u8) -> u64
     ensures { result < 16 }
 {
-    (b % 16) as u64
+    u64::from(b % 16)
 }
 
 // A number of at most 19 digits.

@@ -17,12 +17,9 @@ pub fn put(page: &mut [u8], at: usize, text: &[u8]) -> usize
     requires { at + length text.now ≤ length page.old }
     ensures { Wrote page.old at page.new result text.now }
 {
-    let mut i = 0;
-    while i < text.len() {
-        put_byte(page, at + i, text[i]);
-        i += 1;
-    }
-    at + i
+    let end = at + text.len();
+    page[at..end].copy_from_slice(text);
+    end
 }
 
 // A space and a number.
