@@ -6,7 +6,7 @@ ghost use Rattle.std.specs.Prelude.{◌≡◌, true, ◌+◌, ◌≤◌, pos, le
 ghost use Rattle.laws.specs.Search.{run};
 ghost use Rattle.record.specs.Signed.{up};
 ghost use Rattle.rules.specs.Ranges.{volume};
-ghost use Rattle.kinds.specs.Kinds.{request_of, security_of, trade_of};
+ghost use Rattle.kinds.specs.Kinds.{request_of};
 ghost use Rattle.units.specs.Units.{shares};
 ghost use Rattle.model.specs.Feed.{fed};
 ghost use Rattle.model.specs.Names.{a_security, a_trade};
@@ -20,32 +20,14 @@ use directory::build::places;
 use directory::totals::Totals;
 use directory::typed::{security, trade};
 use hits::gather::submits;
-use hits::judge::entry_at;
 use kinds::inputs::FeedInput;
-use kinds::rows::{Security, Trade, TradeHistory};
-use kinds::typed::Typed;
-use places::place::record_at;
+use kinds::rows::{Request, Security, Trade, TradeHistory};
+use places::place::{typed_at, typed_noted};
 use record::codes::TradeStatus;
 use record::row::Row;
-use sorted::{Sorted, request_at};
+use sorted::Sorted;
 use units::{Amount, Shares, Time, TradeNo};
 use upkeep::{add, change};
-
-// The row at a place as a security.
-fn security_at(book: &[u8], i: usize) -> Security
-    ensures { result ≡ security_of (row_at book.now i) }
-{
-    let record = record_at(book, i);
-    Security::from_bytes(&record)
-}
-
-// The row at a place as a trade.
-fn trade_at(book: &[u8], i: usize) -> Trade
-    ensures { result ≡ trade_of (row_at book.now i) }
-{
-    let record = record_at(book, i);
-    Trade::from_bytes(&record)
-}
 
 // A volume and the shares of an entry.
 fn sum(before: Shares, more: Shares) -> Shares
@@ -64,7 +46,7 @@ fn quote(book: &mut [u8], dir: &[u16], t: Totals, entry: FeedInput)
     ensures ready_2 { Ready book.new dir.now t }
 {
     let at = security(book, dir, entry.symbol);
-    let was = security_at(book, at);
+    let was = typed_at::<Security>(book, at);
     let next = Security {
         last_price: entry.price,
         volume: sum(was.volume, entry.shares),
@@ -87,7 +69,7 @@ fn submit(book: &mut [u8], dir: &mut [u16], t: Totals, time: Time, no: TradeNo) 
     };
     let more = add(book, dir, t, Row::from(history));
     let at = trade(book, dir, no);
-    let mut next = trade_at(book, at);
+    let mut next = typed_at::<Trade>(book, at);
     next.status = TradeStatus::SUBMITTED;
     next.time = time;
     change(book, dir, more, at, Row::from(next));
@@ -97,7 +79,7 @@ fn submit(book: &mut [u8], dir: &mut [u16], t: Totals, time: Time, no: TradeNo) 
 fn number(book: &[u8], place: u16) -> TradeNo
     ensures { result ≡ (request_of (row_at book.now place)).no }
 {
-    request_at(book, usize::from(place)).no
+    typed_noted::<Request>(book, place).no
 }
 
 // The trades of the requests at the first n places, one after the other.
@@ -137,7 +119,7 @@ fn apply(
     requires { Entry trades book.old dir.old t input.now i }
     ensures { Applied (row_at input.now i) book.old t book.new dir.new result }
 {
-    let entry = entry_at(input, i);
+    let entry = typed_at::<FeedInput>(input, i);
     quote(book, dir, t, entry);
     if trades == 0 {
         return t;

@@ -19,7 +19,7 @@ ghost use Rattle.closed.specs.Close.{Closables, Told, closed, closing_row, freed
 use directory::totals::Totals;
 use kinds::rows::{Lot, Trade};
 use money::sides::remaining;
-use sorted::lot_at;
+use places::place::{typed_at, typed_noted};
 use units::{Amount, Shares};
 use upkeep::{add, change, free};
 use walk::Walk;
@@ -32,12 +32,6 @@ pub struct Closed {
     pub totals: Totals,
     pub gone: usize,
     pub left: Shares,
-}
-
-fn lot(book: &[u8], place: u16) -> Lot
-    ensures { result ≡ lot_of (row_at book.now place) }
-{
-    lot_at(book, usize::from(place))
 }
 
 // Adds the history of a lot of which so many shares are left.
@@ -84,7 +78,7 @@ pub fn add_closings(
                 left: Shares(0),
             };
         }
-        let lot = lot(book, at[i]);
+        let lot = typed_noted::<Lot>(book, at[i]);
         let left = w.left(lot);
         totals = add_closing(book, dir, totals, trade, lot, left);
         if left.plain() != 0 {
@@ -118,7 +112,13 @@ pub fn reduce(book: &mut [u8], dir: &[u16], t: Totals, at: &[u16], closed: Close
     let gone = closed.gone;
     let place = usize::from(at[gone]);
     let shares = remaining(trade.trade_type, left);
-    change(book, dir, t, place, lot_after(lot_at(book, place), shares));
+    change(
+        book,
+        dir,
+        t,
+        place,
+        lot_after(typed_at(book, place), shares),
+    );
 }
 
 // The lots that are closed in whole go.

@@ -21,8 +21,9 @@ use groups::lots::{first_lot, next_lot};
 use kinds::rows::Lot;
 use money::sides::buys;
 use places::count::bit;
+use places::place::{typed_at, typed_noted};
 use record::symbol::Symbol;
-use sorted::{By, Sorted, lot_at, sort};
+use sorted::{By, Sorted, sort};
 use units::AccountNo;
 use walk::Walk;
 
@@ -65,7 +66,7 @@ fn noted(book: &[u8], buying: bool, at: &mut [u16], n: usize, place: usize) -> u
     ensures at_after { at.new ≡ set at.old n place }
 {
     at[n] = place as u16;
-    n + bit(faces(buying, lot_at(book, place)))
+    n + bit(faces(buying, typed_at(book, place)))
 }
 
 // Their places in the order of the book.
@@ -100,12 +101,6 @@ pub fn gather(book: &[u8], dir: &[u16], sought: Sought, at: &mut [u16; Sorted::M
     n
 }
 
-fn lot(book: &[u8], place: u16) -> Lot
-    ensures { result ≡ lot_of (row_at book.now place) }
-{
-    lot_at(book, usize::from(place))
-}
-
 // The walk over the lots at the first n places, one after the other, from its start.
 pub fn walked(book: &[u8], at: &[u16; Sorted::MOST], n: usize, start: Walk) -> Walk
     requires priced { Priced book.now at.now n }
@@ -115,7 +110,7 @@ pub fn walked(book: &[u8], at: &[u16; Sorted::MOST], n: usize, start: Walk) -> W
 {
     let mut w = start;
     for &place in &at[..n] {
-        w = w.step(lot(book, place));
+        w = w.step(typed_noted(book, place));
     }
     w
 }

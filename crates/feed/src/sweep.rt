@@ -9,9 +9,9 @@ ghost use Rattle.feed.specs.Sweep.{leaves, left};
 use directory::build::places;
 use directory::totals::Totals;
 use groups::requests::{first_request, next_request};
-use hits::judge::{entry_at, hits};
+use hits::judge::hits;
 use kinds::inputs::FeedInput;
-use sorted::request_at;
+use places::place::typed_at;
 use upkeep::free;
 
 // A request that the entry hits leaves.
@@ -21,7 +21,7 @@ fn sweep_one(book: &mut [u8], dir: &mut [u16], t: Totals, entry: FeedInput, at: 
     ensures book_after { rows book.new ≡ set (rows book.old) at (leaves entry (row_at book.old at)) }
     ensures directory_2 { Directory book.new dir.new result }
 {
-    if hits(entry, request_at(book, at)) {
+    if hits(entry, typed_at(book, at)) {
         return free(book, dir, t, at);
     }
     t
@@ -52,7 +52,7 @@ fn sweep(book: &mut [u8], dir: &mut [u16], t: Totals, input: &[u8]) -> Totals
 {
     let mut left = t;
     for i in 0..places(input) {
-        left = sweep_entry(book, dir, left, entry_at(input, i));
+        left = sweep_entry(book, dir, left, typed_at(input, i));
     }
     left
 }

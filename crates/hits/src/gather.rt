@@ -8,10 +8,12 @@ ghost use Rattle.groups.specs.Collect.{Collected};
 ghost use Rattle.hits.specs.Gather.{Gathered};
 ghost use Rattle.hits.specs.Hits.{due, first_hit, fresh};
 
-use crate::judge::{entry_at, first_hit};
+use crate::judge::first_hit;
 use directory::build::places;
 use groups::requests::{first_request, next_request};
+use kinds::inputs::FeedInput;
 use places::count::bit;
+use places::place::typed_at;
 use sorted::{By, Sorted, sort};
 
 // Writes a place down, and counts it where the entry numbered i is the first that hits the request there.
@@ -30,7 +32,7 @@ fn collect(book: &[u8], dir: &[u16], input: &[u8], i: usize, at: &mut [u16]) -> 
     ensures { Collected (fresh (rows input.now) i) book.now at.new result }
 {
     let end = places(book);
-    let symbol = entry_at(input, i).symbol;
+    let symbol = typed_at::<FeedInput>(input, i).symbol;
     let mut n = 0;
     let mut c = first_request(book, dir, symbol);
     while c < end {

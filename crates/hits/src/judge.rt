@@ -4,7 +4,6 @@ ghost use Rattle.laws.specs.Search.{count, every, total};
 ghost use Rattle.record.specs.Signed.{up};
 ghost use Rattle.record.specs.declared.row.Row.{Row};
 ghost use Rattle.units.specs.declared.Shares.{Shares};
-ghost use Rattle.kinds.specs.Inputs.{feed_input_of};
 ghost use Rattle.rules.specs.Ranges.{volume};
 ghost use Rattle.model.specs.Call.{most_inputs};
 ghost use Rattle.model.specs.Rows.{found, rows, there, whole_records};
@@ -26,23 +25,13 @@ use directory::typed::security;
 use kinds::inputs::FeedInput;
 use kinds::limits::Ranges;
 use kinds::rows::{Request, Security};
-use kinds::typed::Typed;
 use model::Status;
 use places::each::every;
-use places::place::record_at;
+use places::place::typed_at;
 use record::codes::TradeType;
 use record::symbol::Symbol;
 use reply::check;
-use sorted::request_at;
 use units::{Amount, Shares};
-
-// The entry at a place of the input.
-pub fn entry_at(input: &[u8], i: usize) -> FeedInput
-    ensures { result ≡ feed_input_of (row_at input.now i) }
-{
-    let record = record_at(input, i);
-    FeedInput::from_bytes(&record)
-}
 
 // The entry is on the request's symbol and reaches its bid.
 pub fn hits(entry: FeedInput, request: Request) -> bool
@@ -64,7 +53,7 @@ fn hit_before(input: &[u8], k: usize, request: Request) -> bool
     ensures { result ≡ any_reaches (take k (rows input.now)) request }
 {
     for i in 0..k {
-        if hits(entry_at(input, i), request) {
+        if hits(typed_at::<FeedInput>(input, i), request) {
             return true;
         }
     }
@@ -76,8 +65,8 @@ pub fn first_hit(book: &[u8], input: &[u8], i: usize, place: usize) -> bool
     requires { i < places input.now }
     ensures { result ≡ first_hit (rows input.now) i (row_at book.now place) }
 {
-    let request = request_at(book, place);
-    if hits(entry_at(input, i), request) {
+    let request = typed_at::<Request>(book, place);
+    if hits(typed_at::<FeedInput>(input, i), request) {
         return !hit_before(input, i, request);
     }
     false
@@ -88,7 +77,7 @@ fn known(book: &[u8], dir: &[u16], input: &[u8], i: usize) -> bool
     requires { Listed book.now dir.now }
     ensures { result ≡ there (a_security (row_at input.now i).symbol) (rows book.now) }
 {
-    security(book, dir, entry_at(input, i).symbol) < places(book)
+    security(book, dir, typed_at::<FeedInput>(input, i).symbol) < places(book)
 }
 
 // Every entry's security is there.
@@ -103,14 +92,14 @@ fn all_known(book: &[u8], dir: &[u16], input: &[u8]) -> bool
 fn shares_of(input: &[u8], i: usize) -> Shares
     ensures { Many entry_most (row_at input.now i).n2 result }
 {
-    entry_at(input, i).shares
+    typed_at::<FeedInput>(input, i).shares
 }
 
 // The same, if the entry is on the symbol.
 fn shares_at(input: &[u8], symbol: Symbol, i: usize) -> Shares
     ensures { Many entry_most (shares_on symbol (row_at input.now i)) result }
 {
-    let entry = entry_at(input, i);
+    let entry = typed_at::<FeedInput>(input, i);
     let own = entry.symbol;
     if (own == symbol) {
         entry.shares
@@ -154,8 +143,7 @@ fn volume_of(book: &[u8], dir: &[u16], symbol: Symbol) -> Shares
     requires { Listed book.now dir.now × (sound (rows book.now) ≡ true) }
     ensures { Many volume.high (found (a_security symbol) (rows book.now)).m1 result }
 {
-    let record = record_at(book, security(book, dir, symbol));
-    Security::from_bytes(&record).volume
+    typed_at::<Security>(book, security(book, dir, symbol)).volume
 }
 
 // A volume is in its range.
@@ -174,7 +162,7 @@ fn volume_fits(book: &[u8], dir: &[u16], input: &[u8], all: Shares, i: usize) ->
     ensures { let entries = input.now in
         result ≡ volume_fits (rows book.now) (rows entries) (row_at entries i) }
 {
-    let symbol = entry_at(input, i).symbol;
+    let symbol = typed_at::<FeedInput>(input, i).symbol;
     let before = volume_of(book, dir, symbol);
     if in_range(before.plus(all)) {
         return true;

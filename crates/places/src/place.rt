@@ -51,3 +51,10 @@ pub fn typed_at<T: Typed>(book: &[u8], i: usize) -> T
 {
     T::from_bytes(&record_at(book, i))
 }
+
+// The same at a place that an array of places holds.
+pub fn typed_noted<T: Typed>(book: &[u8], place: u16) -> T
+    ensures { result ≡ T.of_row (row_at book.now place) }
+{
+    typed_at(book, usize::from(place))
+}

@@ -5,7 +5,7 @@ use Rattle.applied.proofs.apply.Goals as goal
 
 pub quote-requires : goal.quote-requires
 quote-requires c =
-    let e = c.entry_at-entry.ensures in
+    let e = c.typed_at-entry.ensures in
     record {
       ready = c.requires.ready;
       book_value = entry_known c.requires e;
@@ -14,14 +14,14 @@ quote-requires c =
 
 pub returns-then-trades-eq0 : goal.returns-then-trades-eq0
 returns-then-trades-eq0 c =
-    entry_quiet c.requires c.entry_at-entry.ensures _ c.quote.ensures.book_after (search rules) c.quote.ensures.ready_2
+    entry_quiet c.requires c.typed_at-entry.ensures _ c.quote.ensures.book_after (search rules) c.quote.ensures.ready_2
 
 pub submits-n-requires : goal.submits-n-requires
 submits-n-requires c = (c.quote.ensures.ready_2.directory.listed, c.requires.inside)
 
 pub submit_all-requires : goal.submit_all-requires
 submit_all-requires c =
-    let e = c.entry_at-entry.ensures in
+    let e = c.typed_at-entry.ensures in
     let q = c.quote.ensures in
     let g = c.submits-n.ensures in
     let few = g.few in
@@ -33,7 +33,7 @@ submit_all-requires c =
 
 pub returns : goal.returns
 returns c =
-    let e = c.entry_at-entry.ensures in
+    let e = c.typed_at-entry.ensures in
     let q = c.quote.ensures in
     let g = c.submits-n.ensures in
     let few = g.few in

@@ -6,7 +6,7 @@ use Rattle.applied.proofs.quote.Goals as goal
 pub sum-requires : goal.sum-requires
 sum-requires c =
     (quote_volume c.args.book.now c.args.entry c.requires.book_value c.security-at.ensures c.requires.shares_bound
-    c.security_at-was.ensures refl refl).1
+    c.typed_at-was.ensures refl refl).1
 
 pub change-requires-clause-row_value : goal.change-requires-clause-row_value
 change-requires-clause-row_value c =
@@ -16,7 +16,7 @@ change-requires-clause-row_value c =
     let p = c.security-at.ensures in
     let fits = c.requires.shares_bound in
     let is =
-    quote_is b e there p fits (c.requires.ready.written _) c.security_at-was.ensures refl refl c.sum.ensures
+    quote_is b e there p fits (c.requires.ready.written _) c.typed_at-was.ensures refl refl c.sum.ensures
     c.from.ensures
     in
     quote_stays b e there p fits is
@@ -29,7 +29,7 @@ returns c =
     let p = c.security-at.ensures in
     let fits = c.requires.shares_bound in
     let is =
-    quote_is b e there p fits (c.requires.ready.written _) c.security_at-was.ensures refl refl c.sum.ensures
+    quote_is b e there p fits (c.requires.ready.written _) c.typed_at-was.ensures refl refl c.sum.ensures
     c.from.ensures
     in
     let all =

@@ -17,7 +17,7 @@ change-requires-clause-row_value c =
     let h = history_is c.args.no c.args.time c.from.ensures in
     let p = c.trade-at.ensures in
     let a = c.add-more.ensures in
-    let is = sent_is ready room time i there h (a.fact, (a.directory_2, a.free_value)) p c.trade_at-next.ensures refl c.from-2.ensures in
+    let is = sent_is ready room time i there h (a.fact, (a.directory_2, a.free_value)) p c.typed_at-next.ensures refl c.from-2.ensures in
     sent_stays ready room time i there h (a.fact, (a.directory_2, a.free_value)) p is
 
 pub returns : goal.returns
@@ -30,5 +30,5 @@ returns c =
     let h = history_is c.args.no c.args.time c.from.ensures in
     let p = c.trade-at.ensures in
     let a = c.add-more.ensures in
-    let is = sent_is ready room time i there h (a.fact, (a.directory_2, a.free_value)) p c.trade_at-next.ensures refl c.from-2.ensures in
+    let is = sent_is ready room time i there h (a.fact, (a.directory_2, a.free_value)) p c.typed_at-next.ensures refl c.from-2.ensures in
     sent_one ready room time i there h (a.fact, (a.directory_2, a.free_value)) p is c.change.ensures.book_after c.change.ensures.directory_2

@@ -10,19 +10,19 @@ returns-then-plain-eq0 c = close_met c.loop-i.invariant c.plain.ensures.value c.
 pub left-left-requires : goal.left-left-requires
 left-left-requires c =
     let all = c.requires.closables in
-    lot_near c.loop-i.invariant all.1 all.0 c.loop-i-test.true c.lot-lot.ensures
+    lot_near c.loop-i.invariant all.1 all.0 c.loop-i-test.true c.typed_noted-lot.ensures
 
 pub add_closing-totals-requires-clause-room : goal.add_closing-totals-requires-clause-room
 add_closing-totals-requires-clause-room c =
     let all = c.requires.closables in
     close_room c.loop-i.invariant all.1 all.0 c.loop-i-test.true c.plain.ensures.value c.if-plain-eq0.false
-    c.lot-lot.ensures c.left-left.ensures.value
+    c.typed_noted-lot.ensures c.left-left.ensures.value
 
 pub add_closing-totals-requires-clause-shares_bound :
     goal.add_closing-totals-requires-clause-shares_bound
 add_closing-totals-requires-clause-shares_bound c =
     let all = c.requires.closables in (
-      lot_near c.loop-i.invariant all.1 all.0 c.loop-i-test.true c.lot-lot.ensures,
+      lot_near c.loop-i.invariant all.1 all.0 c.loop-i-test.true c.typed_noted-lot.ensures,
       c.left-left.ensures.up_to,
     )
 
@@ -30,19 +30,19 @@ pub returns-then-plain-ne0 : goal.returns-then-plain-ne0
 returns-then-plain-ne0 c =
     let all = c.requires.closables in
     close_part c.loop-i.invariant all.1 all.0 c.loop-i-test.true c.plain.ensures.value c.if-plain-eq0.false
-    c.lot-lot.ensures c.left-left.ensures.value c.add_closing-totals.ensures c.plain-in-loop-i.ensures.value
+    c.typed_noted-lot.ensures c.left-left.ensures.value c.add_closing-totals.ensures c.plain-in-loop-i.ensures.value
     c.if-plain-ne0.true c.left-left.ensures.up_to
 
 pub step-w-requires-clause-price_le_price_most : goal.step-w-requires-clause-price_le_price_most
 step-w-requires-clause-price_le_price_most c =
     let all = c.requires.closables in
-    lot_steps c.loop-i.invariant all.1 all.0 c.loop-i-test.true c.lot-lot.ensures
+    lot_steps c.loop-i.invariant all.1 all.0 c.loop-i-test.true c.typed_noted-lot.ensures
 
 pub loop-i-preserved : goal.loop-i-preserved
 loop-i-preserved c =
     let all = c.requires.closables in
     close_more c.loop-i.invariant all.1 all.0 c.loop-i-test.true c.plain.ensures.value c.if-plain-eq0.false
-    c.lot-lot.ensures c.left-left.ensures.value c.add_closing-totals.ensures c.plain-in-loop-i.ensures.value
+    c.typed_noted-lot.ensures c.left-left.ensures.value c.add_closing-totals.ensures c.plain-in-loop-i.ensures.value
     c.if-plain-ne0.false c.step-w.ensures.value c.step-w.ensures.within_2
 
 pub returns : goal.returns

@@ -4,4 +4,4 @@ use Rattle.closing.proofs.noted.Goals as goal
 
 pub returns-clause-value : goal.returns-clause-value
 unfolding lot_of
-returns-clause-value c = rw (c.bit.ensures.0, c.faces.ensures, c.lot_at.ensures)
+returns-clause-value c = rw (c.bit.ensures.0, c.faces.ensures, c.typed_at.ensures)

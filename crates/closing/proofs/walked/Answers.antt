@@ -14,12 +14,12 @@ step-w-requires-clause-price_le_price_most c =
     let most = c.requires.within.1 in
     let first = at_first _ _ _ c.loop-place-test.true in
     let inside = first.0 in
-    (walk_price inv c.requires.priced inside (rw first.1 at c.lot.ensures), omega arith)
+    (walk_price inv c.requires.priced inside (rw first.1 at c.typed_noted.ensures), omega arith)
 
 pub loop-place-preserved : goal.loop-place-preserved
 loop-place-preserved c =
     let first = at_first _ _ _ c.loop-place-test.true in
-    walk_more c.loop-place.invariant first.0 (omega arith) (rw first.1 at c.lot.ensures) c.step-w.ensures.value
+    walk_more c.loop-place.invariant first.0 (omega arith) (rw first.1 at c.typed_noted.ensures) c.step-w.ensures.value
     c.step-w.ensures.within_2
 
 pub returns-clause-value : goal.returns-clause-value

@@ -13,7 +13,7 @@ pub loop-i-preserved : goal.loop-i-preserved
 loop-i-preserved c =
     let inside = rw c.places-i-end.ensures at c.loop-i-test.true in (
       sweep_next c.args.input.now c.args.book.now c.loop-i.i c.loop-i.book c.loop-i.invariant.0 _ inside
-          c.entry_at.ensures c.sweep_entry-left.ensures.book_after,
+          c.typed_at.ensures c.sweep_entry-left.ensures.book_after,
       c.sweep_entry-left.ensures.directory,
     )
 

@@ -7,7 +7,7 @@ use Rattle.hits.proofs.gather.collect.Goals as goal
 
 pub loop-c-init : goal.loop-c-init
 loop-c-init c =
-    gather_start c.args.input.now c.args.i c.args.book.now c.entry_at.ensures _ c.requires.2 c.first_request-c.ensures
+    gather_start c.args.input.now c.args.i c.args.book.now c.typed_at.ensures _ c.requires.2 c.first_request-c.ensures
 
 pub noted-n-requires : goal.noted-n-requires
 noted-n-requires c =

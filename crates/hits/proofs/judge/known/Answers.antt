@@ -3,4 +3,4 @@ use Rattle.hits.specs.Judge.{known_is}
 use Rattle.hits.proofs.judge.known.Goals as goal
 
 pub returns : goal.returns
-returns c = known_is _ _ _ c.entry_at.ensures c.security.ensures c.places.ensures
+returns c = known_is _ _ _ c.typed_at.ensures c.security.ensures c.places.ensures

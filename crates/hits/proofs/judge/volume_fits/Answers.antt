@@ -8,7 +8,7 @@ plus-requires c = both_fit c.volume_of-before.ensures c.requires.many (omega ari
 
 pub returns-then-in_range : goal.returns-then-in_range
 returns-then-in_range c =
-    volume_under _ _ _ c.entry_at.ensures c.volume_of-before.ensures c.requires.many c.plus.ensures.value refl
+    volume_under _ _ _ c.typed_at.ensures c.volume_of-before.ensures c.requires.many c.plus.ensures.value refl
     c.in_range.ensures c.if-in_range.true
 
 pub plus-requires-2 : goal.plus-requires-2
@@ -16,5 +16,5 @@ plus-requires-2 c = both_fit c.volume_of-before.ensures c.shares_for.ensures (om
 
 pub returns : goal.returns
 returns c =
-    volume_in _ _ _ c.entry_at.ensures c.volume_of-before.ensures c.shares_for.ensures c.plus-2.ensures.value refl
+    volume_in _ _ _ c.typed_at.ensures c.volume_of-before.ensures c.shares_for.ensures c.plus-2.ensures.value refl
     c.in_range-2.ensures

@@ -1,10 +1,9 @@
 -- The volume of the security that is found, which a sound book keeps in its range.
-use Rattle.std.proofs.Common.{ap, ◌∙◌, refl}
-use Rattle.kinds.specs.Kinds.{security_of}
+use Rattle.std.proofs.Common.{refl}
 use Rattle.hits.specs.Judge.{volume_read}
 use Rattle.hits.proofs.judge.volume_of.Goals as goal
 
 pub returns : goal.returns
 returns c =
     volume_read _ _ c.requires.1 c.security.ensures refl
-    (c.from_bytes.ensures ∙ ap security_of c.record_at-record.ensures.1)
+    c.typed_at.ensures
