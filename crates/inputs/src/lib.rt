@@ -4,58 +4,52 @@
 ghost use Rattle.std.specs.Prelude.{◌≡◌, length};
 ghost use Rattle.laws.specs.Search.{every};
 ghost use Rattle.record.specs.Grid.{decode};
-ghost use Rattle.rules.specs.Rules.{feed_input, lookup_input, order_input, result_input};
+ghost use Rattle.rules.specs.Rules.{feed_input, lookup_input, obeys, order_input, result_input, shape_of};
 ghost use Rattle.model.specs.Rows.{rows};
 
 use kinds::inputs::{FeedInput, LookupInput, OrderInput, ResultInput};
+use kinds::limits::Rule;
 use places::each::every;
 use places::place::row_at;
 use record::row::Row;
 use rules::limited::in_limits;
 use rules::obey::{Spelt, beyond, obeys};
 
-fn order(r: Row) -> bool
-    ensures { result ≡ order_input r }
-{
-    obeys(r, OrderInput::RULE)
-}
-
-fn result(r: Row) -> bool
-    ensures { result ≡ result_input r }
-{
-    obeys(r, ResultInput::RULE)
-}
-
 pub fn is_order(part: &[u8]) -> bool
     requires { length part.now ≡ 64 }
     ensures { result ≡ order_input (decode part.now) }
 {
-    order(Row::read(part))
+    obeys(Row::read(part), OrderInput::RULE)
 }
 
 pub fn is_result(part: &[u8]) -> bool
     requires { length part.now ≡ 64 }
     ensures { result ≡ result_input (decode part.now) }
 {
-    result(Row::read(part))
+    obeys(Row::read(part), ResultInput::RULE)
 }
 
-// These inputs have up to twenty entries. So their rules are asked for in their two parts, and not by `obeys`: a rule that
-// is at hand as a constant takes some 125 instructions less.
+// Feeds and lookups have up to twenty entries. So their rules are asked for in their two parts, and not by `obeys`: a rule
+// that is at hand as a constant takes some 125 instructions less.
+#[inline(always)]
+fn keeps(r: Row, rule: Rule) -> bool
+    ensures { result ≡ obeys (shape_of rule) r }
+{
+    beyond(in_limits(r, rule.limits), r, rule.beyond, Spelt::A)
+}
+
+#[tactic(auto, unfolding(rules::specs::Rules::feed_input_shape))]
 fn feed(r: Row) -> bool
     ensures { result ≡ feed_input r }
 {
-    let rule = FeedInput::RULE;
-    let t = in_limits(r, rule.limits);
-    beyond(t, r, rule.beyond, Spelt::A)
+    keeps(r, FeedInput::RULE)
 }
 
+#[tactic(auto, unfolding(rules::specs::Rules::lookup_input_shape))]
 fn lookup(r: Row) -> bool
     ensures { result ≡ lookup_input r }
 {
-    let rule = LookupInput::RULE;
-    let t = in_limits(r, rule.limits);
-    beyond(t, r, rule.beyond, Spelt::A)
+    keeps(r, LookupInput::RULE)
 }
 
 // Every record of an input is an entry of a feed.
