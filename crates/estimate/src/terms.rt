@@ -15,7 +15,7 @@ use directory::typed;
 use groups::band;
 use groups::sums::tax_rates;
 use kinds::inputs::OrderInput;
-use kinds::rows::{Account, Charge, Customer, Security};
+use kinds::rows::{Account, Charge, Security};
 use model::BandAnswer;
 use places::place::typed_at;
 use record::symbol::Symbol;
@@ -84,13 +84,6 @@ fn paper_of(book: &[u8], dir: &[u16], symbol: Symbol) -> Paper
     }
 }
 
-fn tier_of(book: &[u8], dir: &[u16], no: CustomerNo) -> u8
-    requires { Listed book.now dir.now }
-    ensures { result ≡ (found (a_customer no.0) (rows book.now)).form }
-{
-    typed_at::<Customer>(book, typed::customer(book, dir, no)).tier
-}
-
 fn charge_of(book: &[u8], dir: &[u16], form: u8, tier: u8) -> Cents
     requires { Listed book.now dir.now }
     ensures { result ≡ cents (pos (found (a_charge form tier) (rows book.now)).n1) }
@@ -107,7 +100,7 @@ pub fn terms_of(book: &[u8], dir: &[u16], t: Totals, input: OrderInput) -> Terms
     let permitted = permitted(book, dir, input.account, input.executor);
     let paper = paper_of(book, dir, input.symbol);
     let customer = holder.row.customer;
-    let tier = tier_of(book, dir, customer);
+    let tier = band::tier(book, dir, customer);
     Terms {
         holder,
         permitted,

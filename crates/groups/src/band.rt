@@ -3,20 +3,30 @@ ghost use Rattle.std.specs.Prelude.{◌≡◌, ◌<◌};
 ghost use Rattle.laws.specs.Search.{place};
 ghost use Rattle.record.specs.Signed.{up};
 ghost use Rattle.model.specs.Band.{band_answer, band_for, rated};
-ghost use Rattle.model.specs.Rows.{places, rows};
+ghost use Rattle.model.specs.Names.{a_customer};
+ghost use Rattle.model.specs.Rows.{found, places, rows};
 ghost use Rattle.places.specs.Rows.{row_at};
 ghost use Rattle.directory.specs.Listed.{Listed};
 
 use chains::chain::next;
 use chains::group;
 use directory::build::places;
-use kinds::rows::Band;
+use directory::typed::customer;
+use kinds::rows::{Band, Customer};
 use kinds::typed::Typed;
 use model::BandAnswer;
 use places::place::{part, typed_at};
 use record::codes::Kind;
 use record::row::Grid;
-use units::{Amount, PerTenThousand, Shares};
+use units::{Amount, CustomerNo, PerTenThousand, Shares};
+
+// The tier of a customer, 0 where there is no such customer: a band is of a type, a tier and an exchange.
+pub fn tier(book: &[u8], dir: &[u16], no: CustomerNo) -> u8
+    requires { Listed book.now dir.now }
+    ensures { result ≡ (found (a_customer no.0) (rows book.now)).form }
+{
+    typed_at::<Customer>(book, customer(book, dir, no)).tier
+}
 
 // The record at a place is the band that holds the shares.
 fn holds(book: &[u8], form: u8, tier: u8, exchange: u8, shares: Shares, at: usize) -> bool

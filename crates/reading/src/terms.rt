@@ -14,7 +14,7 @@ use directory::typed;
 use groups::band;
 use groups::sums::tax_rates;
 use kinds::inputs::ResultInput;
-use kinds::rows::{Account, Broker, Customer, Security, Summary, Trade};
+use kinds::rows::{Account, Broker, Security, Summary, Trade};
 use model::BandAnswer;
 use places::place::typed_at;
 use record::symbol::Symbol;
@@ -45,13 +45,6 @@ pub struct Terms {
     pub band: BandAnswer,
 }
 
-fn tier(book: &[u8], dir: &[u16], no: CustomerNo) -> u8
-    requires { Listed book.now dir.now }
-    ensures { result ≡ (found (a_customer no.0) (rows book.now)).form }
-{
-    typed_at::<Customer>(book, typed::customer(book, dir, no)).tier
-}
-
 fn exchange(book: &[u8], dir: &[u16], symbol: Symbol) -> u8
     requires { Listed book.now dir.now }
     ensures { result ≡ (found (a_security symbol) (rows book.now)).form }
@@ -66,7 +59,7 @@ fn band_of(book: &[u8], dir: &[u16], trade: Trade, customer: CustomerNo) -> Band
         result ≡ band_answer rs trade.trade_type (found (a_customer customer.0) rs).form
         (found (a_security trade.symbol) rs).form (up trade.shares.0) }
 {
-    let of = tier(book, dir, customer);
+    let of = band::tier(book, dir, customer);
     let at = exchange(book, dir, trade.symbol);
     band::search(book, dir, trade.trade_type, of, at, trade.shares)
 }

@@ -18,5 +18,5 @@ overflow_add-result c =
 pub returns : goal.returns
 returns c =
     terms_are _ c.args.input c.holder_of-holder.ensures c.permitted-permitted.ensures c.paper_of-paper.ensures
-    c.tier_of-tier.ensures c.charge_of.ensures c.tax_rates.ensures c.search.ensures
+    c.tier-tier.ensures c.charge_of.ensures c.tax_rates.ensures c.search.ensures
     c.requires.0.largest

@@ -3,7 +3,7 @@ use Rattle.std.proofs.Common.{ap, refl}
 use Rattle.record.specs.declared.row.Row.{Row}
 use Rattle.kinds.specs.Kinds.{customer_of}
 use Rattle.directory.specs.Found.{key_row}
-use Rattle.reading.proofs.terms.tier.Goals as goal
+use Rattle.groups.proofs.band.tier.Goals as goal
 
 pub returns : goal.returns
 unfolding customer_of
