@@ -65,6 +65,7 @@ fn noted(book: &[u8], buying: bool, at: &mut [u16], n: usize, place: usize) -> u
     ensures value { result ≡ n + bit (buying ⇔ short (row_at book.now place)) }
     ensures at_after { at.new ≡ set at.old n place }
 {
+    // No place has more than sixteen bits, so there is nothing for `try_from` to find.
     at[n] = place as u16;
     n + bit(faces(buying, typed_at(book, place)))
 }

@@ -29,6 +29,7 @@ fn answer_row(entries: usize, trades: usize) -> Row
 {
     let mut r = nothing();
     r.kind = Kind::FEED;
+    // Neither has more than 32 bits, so there is nothing for `try_from` to find.
     r.n1 = entries as u32;
     r.n2 = trades as u32;
     r

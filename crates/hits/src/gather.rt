@@ -22,6 +22,7 @@ fn noted(book: &[u8], input: &[u8], i: usize, at: &mut [u16], n: usize, place: u
     ensures value { result ≡ n + bit (first_hit (rows input.now) i (row_at book.now place)) }
     ensures at_after { at.new ≡ set at.old n place }
 {
+    // No place has more than sixteen bits, so there is nothing for `try_from` to find.
     at[n] = place as u16;
     n + bit(first_hit(book, input, i, place))
 }

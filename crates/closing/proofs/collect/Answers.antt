@@ -9,18 +9,6 @@ loop-c-init c =
     let s = c.args.sought in
     collect_start (mine s) (closed_by s) (others s) _ _ c.requires.1 c.first_lot-c.ensures
 
-pub noted-n-requires : goal.noted-n-requires
-noted-n-requires c =
-    let inv = c.loop-c.invariant in
-    let n = inv.few in
-    let few = c.requires.0.few in
-    (omega arith, omega arith, inv.long)
-
-pub next_lot-c-requires : goal.next_lot-c-requires
-next_lot-c-requires c =
-    let inside = rw c.places-end.ensures at c.loop-c-test.true in
-    record { listed = c.requires.0; at_bound = (inside, c.loop-c.invariant.here inside) }
-
 pub loop-c-smaller : goal.loop-c-smaller
 loop-c-smaller c =
     let end = c.places-end.ensures in

@@ -1,11 +1,8 @@
 -- Each turn walks over one more lot, whose price is in its range.
 use Rattle.std.proofs.Common.{arith}
 use Rattle.sorted.specs.First.{at_first, past_first}
-use Rattle.closing.specs.Walked.{walk_end, walk_more, walk_price, walk_start}
+use Rattle.closing.specs.Walked.{walk_end, walk_more, walk_price}
 use Rattle.closing.proofs.walked.Goals as goal
-
-pub loop-place-init : goal.loop-place-init
-loop-place-init c = walk_start _ _ _ c.requires.within.0
 
 pub step-w-requires-clause-price_le_price_most : goal.step-w-requires-clause-price_le_price_most
 step-w-requires-clause-price_le_price_most c =

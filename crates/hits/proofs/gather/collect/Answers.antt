@@ -9,20 +9,6 @@ pub loop-c-init : goal.loop-c-init
 loop-c-init c =
     gather_start c.args.input.now c.args.i c.args.book.now c.typed_at.ensures _ c.requires.2 c.first_request-c.ensures
 
-pub noted-n-requires : goal.noted-n-requires
-noted-n-requires c =
-    let inv = c.loop-c.invariant in
-    let n = inv.few in
-    let few = c.requires.0.few in
-    let end = c.places-end.ensures in
-    let inside = c.loop-c-test.true in
-    (c.requires.1, omega arith, omega arith, inv.long)
-
-pub next_request-c-requires : goal.next_request-c-requires
-next_request-c-requires c =
-    let inside = rw c.places-end.ensures at c.loop-c-test.true in
-    record { listed = c.requires.0; at_bound = (inside, c.loop-c.invariant.here inside) }
-
 pub loop-c-smaller : goal.loop-c-smaller
 loop-c-smaller c =
     let inside = rw c.places-end.ensures at c.loop-c-test.true in

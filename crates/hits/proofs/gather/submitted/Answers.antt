@@ -6,9 +6,6 @@ use Rattle.hits.proofs.gather.submitted.Goals as goal
 pub loop-i-init : goal.loop-i-init
 loop-i-init c = count_start _ _
 
-pub collect-sum-requires : goal.collect-sum-requires
-collect-sum-requires c = (c.requires, rw c.places-i-end.ensures at c.loop-i-test.true, search rules)
-
 pub overflow_add-sum : goal.overflow_add-sum
 overflow_add-sum c =
     let few = count_few c.loop-i.invariant in

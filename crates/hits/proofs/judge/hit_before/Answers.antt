@@ -2,9 +2,6 @@
 use Rattle.hits.specs.Judge.{hitting}
 use Rattle.hits.proofs.judge.hit_before.Goals as goal
 
-pub loop-i-init : goal.loop-i-init
-loop-i-init c = search hitting
-
 pub returns-then-hits : goal.returns-then-hits
 returns-then-hits c = search hitting
 

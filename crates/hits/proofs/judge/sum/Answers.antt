@@ -1,10 +1,7 @@
 -- Each turn adds the shares that are told of one entry: `add_more`.
 use Rattle.std.proofs.Common.{arith}
-use Rattle.hits.specs.Judge.{add_all, add_more, add_start, both_fit, few_inputs, size_more, size_start}
+use Rattle.hits.specs.Judge.{add_all, add_more, both_fit, few_inputs, size_more}
 use Rattle.hits.proofs.judge.sum.Goals as goal
-
-pub loop-i-init : goal.loop-i-init
-loop-i-init g c = (size_start, λ f tells. add_start _ _)
 
 pub plus-sum-requires : goal.plus-sum-requires
 plus-sum-requires g c =
