@@ -7,7 +7,6 @@ ghost use Rattle.model.specs.Call.{Promise, feed_call, lookup_call, most_inputs,
 ghost use Rattle.model.specs.Rows.{most_records, places, record_size, whole_records};
 ghost use Rattle.shell.specs.Shell.{call_of, long_of};
 
-use chains::chain::narrow;
 use kinds::limits::Ranges;
 use model::Status;
 use record::row::Grid;
@@ -20,11 +19,7 @@ use sound::whole::whole;
 fn records(book: &[u8]) -> u16
     ensures { places book.now < 65536 → result ≡ places book.now }
 {
-    let n = book.len() / Grid::SIZE;
-    if n < 65_536 {
-        return narrow(n);
-    }
-    0
+    u16::try_from(book.len() / Grid::SIZE).unwrap_or(0)
 }
 
 // The shell of a call that changes a book, with a directory of so many cells.

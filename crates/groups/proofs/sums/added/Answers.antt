@@ -1,5 +1,5 @@
 -- A lot of the account and symbol has shares on one side, in their range since the row fits.
-use Rattle.std.proofs.Common.{◌≡◌, Bool, false, true, sym, ap, ◌∙◌, arith, rules, SFits, w64}
+use Rattle.std.proofs.Common.{false, true, sym, ap, ◌∙◌, arith, rules, SFits, w64}
 use Rattle.std.proofs.lemmas.Int.{to_z-of_z}
 use Rattle.kinds.specs.Kinds.{lot_of}
 use Rattle.units.specs.declared.Shares.{Shares}

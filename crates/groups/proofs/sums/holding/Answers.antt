@@ -1,5 +1,5 @@
 -- Each turn adds what its record adds, to the count and to both sums; a link skips only rows that add nothing.
-use Rattle.std.proofs.Common.{refl, arith, false, true, rules}
+use Rattle.std.proofs.Common.{refl, false, true, rules}
 use Rattle.laws.specs.Search.{count}
 use Rattle.rules.specs.Ranges.{shares_most}
 use Rattle.directory.specs.Listed.{tally_all, tally_start, walks}

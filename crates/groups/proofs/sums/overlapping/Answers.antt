@@ -1,5 +1,5 @@
 -- Each turn counts its record if it overlaps; a link skips only rows that count nothing.
-use Rattle.std.proofs.Common.{refl, ap, ◌∙◌, ◌≡◌, ◌≤◌, rules}
+use Rattle.std.proofs.Common.{refl, ap, ◌∙◌, ◌≤◌, rules}
 use Rattle.laws.specs.Search.{count}
 use Rattle.kinds.specs.Kinds.{band_of}
 use Rattle.directory.specs.Listed.{tally_all, tally_more, walks}
