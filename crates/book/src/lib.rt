@@ -7,7 +7,6 @@ ghost use Rattle.model.specs.Call.{Promise, feed_call, lookup_call, most_inputs,
 ghost use Rattle.model.specs.Rows.{most_records, places, record_size, whole_records};
 ghost use Rattle.shell.specs.Shell.{call_of, long_of};
 
-use chains::chain::narrow;
 use kinds::limits::Ranges;
 use model::Status;
 use record::row::Grid;
@@ -20,14 +19,12 @@ use sound::whole::whole;
 fn records(book: &[u8]) -> u16
     ensures { places book.now < 65536 → result ≡ places book.now }
 {
-    let n = book.len() / Grid::SIZE;
-    if n < 65_536 {
-        return narrow(n);
-    }
-    0
+    u16::try_from(book.len() / Grid::SIZE).unwrap_or(0)
 }
 
-// The shell of a call that changes a book, with a directory of so many cells.
+// The shell of a call that changes a book, with a directory of so many cells. Inlined, a call for a small book would pay
+// for the largest.
+#[inline(never)]
 fn within_cells<const CELLS: usize>(
     call: Call,
     book: &mut [u8],
@@ -86,6 +83,7 @@ pub extern "C" fn book_feed(book: &mut [u8], input: &[u8], answer: &mut [u8]) ->
 }
 
 // The shell of a lookup, with a directory of so many cells.
+#[inline(never)]
 fn looked_cells<const CELLS: usize>(book: &[u8], input: &[u8], answer: &mut [u8]) -> i32
     requires room { (places book.now ≤ most_records → places book.now < CELLS / 2) × (CELLS ≤ 32768) }
     requires input_value { (whole_records most_inputs (length input.now) ≡ true)

@@ -12,7 +12,7 @@ use Rattle.keys.specs.Key.{key_of, same_key}
 use Rattle.keys.specs.KeyLaws.{same_keys}
 use Rattle.keys.specs.declared.Key.{Key}
 use Rattle.record.specs.declared.row.Row.{Row}
-use Rattle.model.specs.Rows.{has_key, is, most_records, nothing, rows}
+use Rattle.model.specs.Rows.{has_key, most_records, nothing, rows}
 use Rattle.places.specs.Loop.{Sought, seek_found, seek_more, seek_none}
 use Rattle.facts.specs.Rows.{length_rows}
 use Rattle.places.specs.Rows.{row_at}

@@ -37,8 +37,8 @@ impl Marks {
     pub const EACH: usize = 8;
 }
 
-// The slot of the row at i where that is well and no row before it has the slot. Its symbol is mostly that of its trade,
-// which fits, so that it is spelled right.
+// The slot of the row at i where that is well and no row before it has the slot. Its symbol is mostly that of its
+// trade, which fits, so that it is spelled right.
 fn slot_at(book: &[u8], dir: &[u16], marks: &[u8], kind: u8, i: usize) -> Option<usize>
     requires listed { Listed book.now dir.now }
     requires i_bound { (i < places book.now) × (hangs (row_at book.now i) ≡ true) × ((row_at book.now i).kind ≡ kind) }
@@ -64,8 +64,8 @@ fn slot_at(book: &[u8], dir: &[u16], marks: &[u8], kind: u8, i: usize) -> Option
     Some(s)
 }
 
-// S1, S2 and the rule of a row by its trade, for every row of a kind that hangs on a trade; and they are marked. The walk
-// is written out: of marks that a test would write nothing would be known behind it.
+// S1, S2 and the rule of a row by its trade, for every row of a kind that hangs on a trade; and they are marked. The
+// walk is written out: of marks that a test would write nothing would be known behind it.
 pub fn hang(book: &[u8], dir: &[u16], links: &[u16], marks: &mut [u8], kind: u8) -> bool
     requires listed { Listed book.now dir.now }
     requires by_kind { ByKind book.now links.now 0 }

@@ -94,7 +94,8 @@ fn judged(book: &[u8], dir: &[u16], links: &mut [u16], marks: &mut [u8]) -> bool
     closing(book, dir, links, marks)
 }
 
-// The same in areas of their own, of so many links and marks.
+// The same in areas of their own, of so many links and marks. Inlined, a call for a small book would pay for the largest.
+#[inline(never)]
 fn judged_in<const LINKS: usize, const MARKS: usize>(book: &[u8], dir: &[u16]) -> bool
     requires listed { Listed book.now dir.now }
     requires links_bound { (kind_heads + places book.now ≤ LINKS) × (LINKS ≤ 32768) }
@@ -120,6 +121,7 @@ pub fn sound_by(book: &[u8], dir: &[u16]) -> bool
 }
 
 // The same by a directory of its own, of so many cells.
+#[inline(never)]
 fn sound_in<const CELLS: usize>(book: &[u8]) -> bool
     requires book_bound { places book.now ≤ most_records }
     requires cells_bound { (places book.now < CELLS / 2) × (CELLS ≤ 32768) }

@@ -6,8 +6,5 @@ use Rattle.upkeep.proofs.below.Goals as goal
 pub returns-then-row_at-eq-FREE : goal.returns-then-row_at-eq-FREE
 returns-then-row_at-eq-FREE c = search (rules, downs)
 
-pub loop-q-preserved : goal.loop-q-preserved
-loop-q-preserved c = search (rules, downs)
-
 pub returns : goal.returns
 returns c = search (rules, downs)

@@ -2,7 +2,7 @@
 -- passes over no row of the key.
 use Rattle.std.proofs.Common.{refl, ne_eqb, rules}
 use Rattle.directory.specs.Listed.{key_grouped, other_kind, own_group, own_key, probe_more, probe_next}
-use Rattle.directory.specs.Listed.{probed_bucket, probed_walk, walks}
+use Rattle.directory.specs.Listed.{probed_bucket, walks}
 use Rattle.directory.specs.Marked.{own_marked}
 use Rattle.directory.proofs.find.again.Goals as goal
 
