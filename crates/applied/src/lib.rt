@@ -63,16 +63,11 @@ fn quote(book: &mut [u8], dir: &[u16], t: Totals, entry: FeedInput)
 {
     let at = security(book, dir, entry.symbol);
     let was = security_at(book, at);
-    let volume = sum(was.volume, entry.shares);
-    let symbol = was.symbol;
-    let last_price = entry.price;
-    let time = entry.time;
     let next = Security {
-        symbol,
-        exchange: was.exchange,
-        last_price,
-        volume,
-        time,
+        last_price: entry.price,
+        volume: sum(was.volume, entry.shares),
+        time: entry.time,
+        ..was
     };
     change(book, dir, t, at, next.row());
 }
@@ -100,7 +95,7 @@ fn submit(book: &mut [u8], dir: &mut [u16], t: Totals, time: Time, no: TradeNo) 
 fn number(book: &[u8], place: u16) -> TradeNo
     ensures { result ≡ (request_of (row_at book.now place)).no }
 {
-    request_at(book, place as usize).no
+    request_at(book, usize::from(place)).no
 }
 
 // The trades of the requests at the first n places, one after the other.
@@ -120,11 +115,9 @@ fn submit_all(
     ensures ready_2 { Ready book.new dir.new result × (result.free + n ≡ t.free) }
 {
     let mut left = t;
-    let mut k = 0;
-    while k < n {
-        let no = number(book, at[k]);
+    for &place in &at[..n] {
+        let no = number(book, place);
         left = submit(book, dir, left, time, no);
-        k += 1;
     }
     left
 }
@@ -158,12 +151,9 @@ pub fn apply_all(book: &mut [u8], dir: &mut [u16], t: Totals, input: &[u8], trad
     ensures directory { Directory book.new dir.new result }
 {
     let mut at = [0u16; Sorted::MOST];
-    let n = places(input);
     let mut left = t;
-    let mut i = 0;
-    while i < n {
+    for i in 0..places(input) {
         left = apply(book, dir, left, input, i, trades, &mut at);
-        i += 1;
     }
     left
 }

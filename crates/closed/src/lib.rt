@@ -34,16 +34,10 @@ pub struct Closed {
     pub left: Shares,
 }
 
-fn wide(x: u16) -> usize
-    ensures { result ≡ x }
-{
-    x as usize
-}
-
 fn lot(book: &[u8], place: u16) -> Lot
     ensures { result ≡ lot_of (row_at book.now place) }
 {
-    lot_at(book, wide(place))
+    lot_at(book, usize::from(place))
 }
 
 // Adds the history of a lot of which so many shares are left.
@@ -82,8 +76,7 @@ pub fn add_closings(
 {
     let mut w = start;
     let mut totals = t;
-    let mut i = 0;
-    while i < n {
+    for i in 0..n {
         if w.need.plain() == 0 {
             return Closed {
                 totals,
@@ -102,11 +95,10 @@ pub fn add_closings(
             };
         }
         w = w.step(lot);
-        i += 1;
     }
     Closed {
         totals,
-        gone: i,
+        gone: n,
         left: Shares(0),
     }
 }
@@ -124,7 +116,7 @@ pub fn reduce(book: &mut [u8], dir: &[u16], t: Totals, at: &[u16], closed: Close
         return;
     }
     let gone = closed.gone;
-    let place = wide(at[gone]);
+    let place = usize::from(at[gone]);
     let shares = remaining(trade.trade_type, left);
     change(book, dir, t, place, lot_after(lot_at(book, place), shares));
 }
@@ -137,10 +129,8 @@ pub fn free_lots(book: &mut [u8], dir: &mut [u16], t: Totals, at: &[u16], gone: 
         dir.new result }
 {
     let mut totals = t;
-    let mut i = 0;
-    while i < gone {
-        totals = free(book, dir, totals, wide(at[i]));
-        i += 1;
+    for &place in &at[..gone] {
+        totals = free(book, dir, totals, usize::from(place));
     }
     totals
 }

@@ -55,8 +55,7 @@ impl Sought {
 fn faces(buying: bool, lot: Lot) -> bool
     ensures { result ≡ (buying ⇔ lt_z lot.shares.0 (pos 0)) }
 {
-    let owed = lot.shares.0 < 0;
-    (buying & owed) | (!buying & !owed)
+    buying == (lot.shares.0 < 0)
 }
 
 // Writes a place down, and counts it where its lot is one to close.
@@ -104,31 +103,19 @@ pub fn gather(book: &[u8], dir: &[u16], sought: Sought, at: &mut [u16; Sorted::M
 fn lot(book: &[u8], place: u16) -> Lot
     ensures { result ≡ lot_of (row_at book.now place) }
 {
-    lot_at(book, place as usize)
+    lot_at(book, usize::from(place))
 }
 
-// The walk over the lots at the first n places, one after the other.
-fn walk_all(book: &[u8], at: &[u16], n: usize, start: Walk) -> Walk
-    requires priced { Priced book.now at.now n × (n ≤ length at.now) }
-    requires within { Within value_most start × (start.closed + n ≤ most_records) }
-    ensures value { result ≡ through start (map (row_at book.now) (take n at.now)) }
-    ensures within_2 { Within value_most result }
-{
-    let mut w = start;
-    let mut i = 0;
-    while i < n {
-        w = w.step(lot(book, at[i]));
-        i += 1;
-    }
-    w
-}
-
-// The walk over the gathered lots from its start.
+// The walk over the lots at the first n places, one after the other, from its start.
 pub fn walked(book: &[u8], at: &[u16; Sorted::MOST], n: usize, start: Walk) -> Walk
     requires priced { Priced book.now at.now n }
     requires within { Within value_most start × (start.closed + n ≤ most_records) }
     ensures value { result ≡ through start (map (row_at book.now) (take n at.now)) }
     ensures within_2 { Within value_most result }
 {
-    walk_all(book, at, n, start)
+    let mut w = start;
+    for &place in &at[..n] {
+        w = w.step(lot(book, place));
+    }
+    w
 }

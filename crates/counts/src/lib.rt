@@ -11,7 +11,7 @@ use kinds::rows::Trade;
 use places::count::bit;
 use places::place::part;
 use record::codes::{Kind, TradeStatus, TradeType};
-use record::row::Grid;
+use record::row::{Grid, places};
 
 // The record at a place is a trade of this type and status.
 fn counts(book: &[u8], i: usize, form: u8, status: u8) -> bool
@@ -27,12 +27,9 @@ fn counts(book: &[u8], i: usize, form: u8, status: u8) -> bool
 fn trades(book: &[u8], form: u8, status: u8) -> usize
     ensures { result ≡ count (in_square form status) (rows book.now) }
 {
-    let n = book.len() / Grid::SIZE;
-    let mut sum: usize = 0;
-    let mut i = 0;
-    while i < n {
+    let mut sum = 0;
+    for i in 0..places(book) {
         sum += bit(counts(book, i, form, status));
-        i += 1;
     }
     sum
 }

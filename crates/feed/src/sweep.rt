@@ -50,12 +50,9 @@ fn sweep(book: &mut [u8], dir: &mut [u16], t: Totals, input: &[u8]) -> Totals
     ensures book_after { rows book.new ≡ map (left (rows input.now)) (rows book.old) }
     ensures directory { Directory book.new dir.new result }
 {
-    let n = places(input);
     let mut left = t;
-    let mut i = 0;
-    while i < n {
+    for i in 0..places(input) {
         left = sweep_entry(book, dir, left, entry_at(input, i));
-        i += 1;
     }
     left
 }

@@ -185,6 +185,10 @@ pub record Adding (f : Row → ℕ) (b : List ℕ) (w : ℕ) (x : Shares) (i : �
   pub sum : Summed f entry_most b w (up x.0) i
   pub whole : x.0 ≡ pos (up x.0)
 
+-- whatever is told of the entry at a place is what f counts of its row
+abbrev pub Counts : (ℕ → Shares → Type 0) → List ℕ → (Row → ℕ) → Type 0
+Counts tells b f = (i : ℕ) (x : Shares) → tells i x → up x.0 ≡ f (row_at b i)
+
 pub add_start : (f : Row → ℕ) (b : List ℕ) → Adding f b (total f (rows b)) (shares (pos 0)) 0
 add_start f b = record { sum = sum_start f entry_most b; whole = refl }
 
@@ -197,6 +201,19 @@ both_fit {m} {k} {a} {b} {x} {y} p q h =
     let l = p.1 in
     let r = q.1 in
     omega arith
+
+-- the size of a sum of i entries, and of one more
+pub size_start : Many (entry_most * 0) 0 (shares (pos 0))
+size_start = (refl, omega arith)
+
+pub size_more : (i : ℕ) {x y z : Shares} → Many (entry_most * i) (up x.0) x → Many entry_most (up y.0) y
+    → z ≡ shares (x.0 +ℤ y.0) → Many (entry_most * (i + 1)) (up z.0) z
+size_more i {x} {y} {z} p q e =
+    let both : x.0 +ℤ y.0 ≡ pos (up x.0) +ℤ pos (up y.0) = λ j. p.0 j +ℤ q.0 j in
+    let sum_is : z.0 ≡ pos (up x.0 + up y.0) = ap (λ (v : Shares). v.0) e ∙ both in
+    let a = p.1 in
+    let b = q.1 in
+    rw sum_is (refl, omega arith)
 
 module _ {f : Row → ℕ} {b : List ℕ} {w : ℕ} {x : Shares} {i : ℕ} (s : Adding f b w x i)
     (few : whole_records most_inputs (length b) ≡ true) where

@@ -62,12 +62,9 @@ pub fn submitted(book: &[u8], dir: &[u16], input: &[u8]) -> usize
     ensures { result ≡ count (due (rows input.now)) (rows book.now) }
 {
     let mut at = [0u16; Sorted::MOST];
-    let n = places(input);
-    let mut sum: usize = 0;
-    let mut i = 0;
-    while i < n {
+    let mut sum = 0;
+    for i in 0..places(input) {
         sum += collect(book, dir, input, i, &mut at);
-        i += 1;
     }
     sum
 }

@@ -1,7 +1,9 @@
 // What a feed is refused for, told from the book at entry, and which entry is the first to hit a request.
-ghost use Rattle.std.specs.Prelude.{◌≡◌, true, ◌<◌, ◌≤◌, leb, length, take};
-ghost use Rattle.laws.specs.Search.{count, every};
+ghost use Rattle.std.specs.Prelude.{◌≡◌, true, ℕ, ◌<◌, ◌≤◌, leb, length, take};
+ghost use Rattle.laws.specs.Search.{count, every, total};
 ghost use Rattle.record.specs.Signed.{up};
+ghost use Rattle.record.specs.declared.row.Row.{Row};
+ghost use Rattle.units.specs.declared.Shares.{Shares};
 ghost use Rattle.kinds.specs.Inputs.{feed_input_of};
 ghost use Rattle.rules.specs.Ranges.{volume};
 ghost use Rattle.model.specs.Call.{most_inputs};
@@ -12,10 +14,11 @@ ghost use Rattle.model.specs.Feed.{checks};
 ghost use Rattle.model.specs.Sound.{sound};
 ghost use Rattle.facts.specs.Feed.{shares_for};
 ghost use Rattle.places.specs.Rows.{row_at};
+ghost use Rattle.reply.specs.Ending.{Refuses, ended};
 ghost use Rattle.directory.specs.Directory.{Directory};
 ghost use Rattle.directory.specs.Listed.{Listed, places};
 ghost use Rattle.hits.specs.Hits.{any_reaches, due, first_hit, reaches};
-ghost use Rattle.hits.specs.Judge.{Many, all_known, entries_most, entry_most, shares_in, shares_on, volume_fits};
+ghost use Rattle.hits.specs.Judge.{Counts, Many, all_known, entries_most, entry_most, shares_in, shares_on, volume_fits};
 
 use directory::build::places;
 use directory::totals::Totals;
@@ -24,11 +27,11 @@ use kinds::inputs::FeedInput;
 use kinds::limits::Ranges;
 use kinds::rows::{Request, Security};
 use model::Status;
+use places::each::every;
 use places::place::record_at;
 use record::codes::TradeType;
-use record::row::Grid;
 use record::symbol::Symbol;
-use reply::also;
+use reply::check;
 use sorted::request_at;
 use units::Shares;
 
@@ -59,12 +62,10 @@ fn hit_before(input: &[u8], k: usize, request: Request) -> bool
     requires { k ≤ places input.now }
     ensures { result ≡ any_reaches (take k (rows input.now)) request }
 {
-    let mut i = 0;
-    while i < k {
+    for i in 0..k {
         if hits(entry_at(input, i), request) {
             return true;
         }
-        i += 1;
     }
     false
 }
@@ -94,19 +95,17 @@ fn all_known(book: &[u8], dir: &[u16], input: &[u8]) -> bool
     requires { Listed book.now dir.now }
     ensures { result ≡ all_known (rows book.now) (rows input.now) }
 {
-    let n = input.len() / Grid::SIZE;
-    let mut i = 0;
-    while i < n {
-        if known(book, dir, input, i) {
-            i += 1;
-        } else {
-            return false;
-        }
-    }
-    true
+    every(input, |i| known(book, dir, input, i))
 }
 
-// The shares of the entry at a place, if it is on the symbol.
+// The shares of the entry at a place.
+fn shares_of(input: &[u8], i: usize) -> Shares
+    ensures { Many entry_most (row_at input.now i).n2 result }
+{
+    entry_at(input, i).shares
+}
+
+// The same, if the entry is on the symbol.
 fn shares_at(input: &[u8], symbol: Symbol, i: usize) -> Shares
     ensures { Many entry_most (shares_on symbol (row_at input.now i)) result }
 {
@@ -119,19 +118,26 @@ fn shares_at(input: &[u8], symbol: Symbol, i: usize) -> Shares
     }
 }
 
+// The sum of the shares that are told of each entry, by its place.
+fn sum<F: Fn(usize) -> Shares>(input: &[u8], shares: F) -> Shares
+    requires callable { F.IsAlwaysCallable shares }
+    requires input_value { whole_records most_inputs (length input.now) ≡ true }
+    requires small { (i : ℕ) (x : Shares) → F.post shares i x → Many entry_most (up x.0) x }
+    ensures { (f : Row → ℕ) → Counts (F.post shares) input.now f → Many entries_most (total f (rows input.now)) result }
+{
+    let mut sum = Shares(0);
+    for i in 0..places(input) {
+        sum = sum.plus(shares(i));
+    }
+    sum
+}
+
 // The shares of the entries on a symbol.
 fn shares_for(input: &[u8], symbol: Symbol) -> Shares
     requires { whole_records most_inputs (length input.now) ≡ true }
     ensures { Many entries_most (shares_for symbol (rows input.now)) result }
 {
-    let n = input.len() / Grid::SIZE;
-    let mut sum = Shares(0);
-    let mut i = 0;
-    while i < n {
-        sum = sum.plus(shares_at(input, symbol, i));
-        i += 1;
-    }
-    sum
+    sum(input, |i| shares_at(input, symbol, i))
 }
 
 // The shares of all entries.
@@ -139,14 +145,7 @@ fn shares_in(input: &[u8]) -> Shares
     requires { whole_records most_inputs (length input.now) ≡ true }
     ensures { Many entries_most (shares_in (rows input.now)) result }
 {
-    let n = input.len() / Grid::SIZE;
-    let mut sum = Shares(0);
-    let mut i = 0;
-    while i < n {
-        sum = sum.plus(entry_at(input, i).shares);
-        i += 1;
-    }
-    sum
+    sum(input, |i| shares_of(input, i))
 }
 
 // The volume of a security, 0 where it is not there.
@@ -189,31 +188,19 @@ fn volumes_fit(book: &[u8], dir: &[u16], input: &[u8]) -> bool
         result ≡ every (volume_fits (rows book.now) entries) entries }
 {
     let all = shares_in(input);
-    let n = input.len() / Grid::SIZE;
-    let mut i = 0;
-    while i < n {
-        if volume_fits(book, dir, input, all, i) {
-            i += 1;
-        } else {
-            return false;
-        }
-    }
-    true
+    every(input, |i| volume_fits(book, dir, input, all, i))
 }
 
 // The checks of the rules, one after the other, of a feed that submits so many trades.
-pub fn judge(book: &[u8], dir: &[u16], t: Totals, input: &[u8], trades: usize) -> Status
+pub fn judge(book: &[u8], dir: &[u16], t: Totals, input: &[u8], trades: usize) -> Result<(), Status>
     requires directory { Directory book.now dir.now t }
     requires input_value { whole_records most_inputs (length input.now) ≡ true }
     requires book_value { sound (rows book.now) ≡ true }
     requires trades_value { trades ≡ count (due (rows input.now)) (rows book.now) }
-    ensures { result ≡ verdict (checks (rows book.now) (rows input.now)) }
+    ensures value { ended result ≡ verdict (checks (rows book.now) (rows input.now)) }
+    ensures refusal { Refuses result }
 {
-    let s1 = also(
-        Status::Done,
-        all_known(book, dir, input),
-        Status::FeedNoSecurity,
-    );
-    let s2 = also(s1, volumes_fit(book, dir, input), Status::OverLimit);
-    also(s2, trades <= t.free, Status::NoRoom)
+    check(all_known(book, dir, input), Status::FeedNoSecurity)?;
+    check(volumes_fit(book, dir, input), Status::OverLimit)?;
+    check(trades <= t.free, Status::NoRoom)
 }

@@ -1,15 +1,16 @@
 // The rules of the four kinds of input, decided on the record's own bytes: what breaks one is -103.
 #![tactic(auto)]
 
-ghost use Rattle.std.specs.Prelude.{◌≡◌, cond, length};
+ghost use Rattle.std.specs.Prelude.{◌≡◌, length};
 ghost use Rattle.laws.specs.Search.{every};
 ghost use Rattle.record.specs.Grid.{decode};
 ghost use Rattle.rules.specs.Rules.{feed_input, lookup_input, order_input, result_input};
 ghost use Rattle.model.specs.Rows.{rows};
 
 use kinds::inputs::{FeedInput, LookupInput, OrderInput, ResultInput};
+use places::each::every;
 use places::place::row_at;
-use record::row::{Grid, Row};
+use record::row::Row;
 use rules::limited::in_limits;
 use rules::obey::{Spelt, beyond, obeys};
 
@@ -57,37 +58,16 @@ fn lookup(r: Row) -> bool
     beyond(t, r, rule.beyond, Spelt::A)
 }
 
-// An entry of a lookup or of a feed.
-fn entry(lookups: bool, r: Row) -> bool
-    ensures { result ≡ cond lookups (lookup_input r) (feed_input r) }
-{
-    if lookups { lookup(r) } else { feed(r) }
-}
-
-// Every record of an input is such an entry.
-fn all(lookups: bool, input: &[u8]) -> bool
-    ensures { result ≡ every (λ r. cond lookups (lookup_input r) (feed_input r)) (rows input.now) }
-{
-    let n = input.len() / Grid::SIZE;
-    let mut i = 0;
-    while i < n {
-        if entry(lookups, row_at(input, i)) {
-            i += 1;
-        } else {
-            return false;
-        }
-    }
-    true
-}
-
+// Every record of an input is an entry of a feed.
 pub fn all_feed(input: &[u8]) -> bool
     ensures { result ≡ every feed_input (rows input.now) }
 {
-    all(false, input)
+    every(input, |i| feed(row_at(input, i)))
 }
 
+// The same of a lookup.
 pub fn all_lookup(input: &[u8]) -> bool
     ensures { result ≡ every lookup_input (rows input.now) }
 {
-    all(true, input)
+    every(input, |i| lookup(row_at(input, i)))
 }

@@ -8,6 +8,7 @@ ghost use Rattle.model.specs.Names.{a_trade};
 ghost use Rattle.model.specs.Rows.{places, rows, there, whole_records};
 ghost use Rattle.model.specs.Plan.{verdict};
 ghost use Rattle.directory.specs.Listed.{Listed};
+ghost use Rattle.reply.specs.Ending.{Refuses, ended};
 ghost use Rattle.reply.specs.Left.{answer_left};
 ghost use Rattle.places.specs.Rows.{row_at};
 ghost use Rattle.lookup.specs.Fill.{Answers, all_known, asked};
@@ -15,10 +16,11 @@ ghost use Rattle.lookup.specs.Fill.{Answers, all_known, asked};
 use directory::typed::{settlement, trade};
 use kinds::inputs::LookupInput;
 use model::Status;
+use places::each::every;
 use places::place::part;
 use places::put::put_from;
-use record::row::{Grid, places};
-use reply::{also, done};
+use record::row::places;
+use reply::check;
 use units::TradeNo;
 
 // The trade that a record of the input asks for.
@@ -43,28 +45,16 @@ fn all_known(book: &[u8], dir: &[u16], input: &[u8]) -> bool
     requires { Listed book.now dir.now }
     ensures { result ≡ all_known (rows book.now) (rows input.now) }
 {
-    let n = input.len() / Grid::SIZE;
-    let mut i = 0;
-    while i < n {
-        if known(book, dir, input, i) {
-            i += 1;
-        } else {
-            return false;
-        }
-    }
-    true
+    every(input, |i| known(book, dir, input, i))
 }
 
 // The checks of the rules.
-fn judge(book: &[u8], dir: &[u16], input: &[u8]) -> Status
+fn judge(book: &[u8], dir: &[u16], input: &[u8]) -> Result<(), Status>
     requires { Listed book.now dir.now }
-    ensures { result ≡ verdict (checks (rows book.now) (rows input.now)) }
+    ensures value { ended result ≡ verdict (checks (rows book.now) (rows input.now)) }
+    ensures refusal { Refuses result }
 {
-    also(
-        Status::Done,
-        all_known(book, dir, input),
-        Status::LookupNoTrade,
-    )
+    check(all_known(book, dir, input), Status::LookupNoTrade)
 }
 
 // The trade row and the settlement row of a number, at the places 2i and 2i + 1.
@@ -85,28 +75,23 @@ fn answer_all(book: &[u8], dir: &[u16], input: &[u8], answer: &mut [u8])
     requires answer_value { places answer.old ≡ places input.now * 2 }
     ensures { rows answer.new ≡ looked (rows book.now) (rows input.now) }
 {
-    let n = input.len() / Grid::SIZE;
-    let mut i = 0;
-    while i < n {
+    for i in 0..places(input) {
         answer_one(book, dir, asked(input, i), answer, i);
-        i += 1;
     }
 }
 
 // What a lookup gives on a book that is sound: the rows of every trade that is asked for; where one is unknown, the
 // area is as it was.
-pub fn lookup(book: &[u8], dir: &[u16], input: &[u8], answer: &mut [u8]) -> Status
+pub fn lookup(book: &[u8], dir: &[u16], input: &[u8], answer: &mut [u8]) -> Result<(), Status>
     requires listed { Listed book.now dir.now }
     requires input_value { whole_records most_inputs (length input.now) ≡ true }
     requires answer_len { length answer.old ≡ length input.now * 2 }
-    ensures value { result ≡ (lookup (rows book.now) (rows input.now)).status }
+    ensures value { ended result ≡ (lookup (rows book.now) (rows input.now)).status }
     ensures answer_after { answer.new
         ≡ answer_left (lookup (rows book.now) (rows input.now)) answer.old }
+    ensures refusal { Refuses result }
 {
-    let s = judge(book, dir, input);
-    if done(s) {
-        answer_all(book, dir, input, answer);
-        return s;
-    }
-    s
+    judge(book, dir, input)?;
+    answer_all(book, dir, input, answer);
+    Ok(())
 }

@@ -1,3 +1,4 @@
 pub mod Rows
 pub mod Loop
 pub mod Put
+pub mod Each

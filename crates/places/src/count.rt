@@ -6,5 +6,5 @@ ghost use Rattle.laws.specs.Search.{bit};
 pub fn bit(test: bool) -> usize
     ensures { (result ≡ bit test) × (result ≤ 1) }
 {
-    if test { 1 } else { 0 }
+    usize::from(test)
 }

@@ -3,5 +3,6 @@
 #![tactic(auto)]
 
 pub mod count;
+pub mod each;
 pub mod place;
 pub mod put;

@@ -6,14 +6,14 @@ pub loop-i-init : goal.loop-i-init
 loop-i-init c = apply_start c.requires
 
 pub apply-left-requires : goal.apply-left-requires
-apply-left-requires c = apply_entry c.loop-i.invariant (rw c.places-n.ensures at c.loop-i-test.true)
+apply-left-requires c = apply_entry c.loop-i.invariant (rw c.places-i-end.ensures at c.loop-i-test.true)
 
 pub loop-i-preserved : goal.loop-i-preserved
 loop-i-preserved c =
-    let inside = rw c.places-n.ensures at c.loop-i-test.true in
+    let inside = rw c.places-i-end.ensures at c.loop-i-test.true in
     apply_more c.loop-i.invariant inside c.apply-left.ensures
 
 pub returns : goal.returns
 returns c =
     let inv = c.loop-i.invariant in
-    record { book_after = apply_end inv (rw c.places-n.ensures at c.loop-i-test.false); directory = inv.ready.directory }
+    record { book_after = apply_end inv (rw c.places-i-end.ensures at c.loop-i-test.false); directory = inv.ready.directory }

@@ -3,8 +3,8 @@ use Rattle.std.proofs.Common.{refl}
 use Rattle.applied.specs.Submit.{quote_is, quote_stays, quote_volume, quoted}
 use Rattle.applied.proofs.quote.Goals as goal
 
-pub sum-volume-requires : goal.sum-volume-requires
-sum-volume-requires c =
+pub sum-requires : goal.sum-requires
+sum-requires c =
     (quote_volume c.args.book.now c.args.entry c.requires.book_value c.security-at.ensures c.requires.shares_bound
     c.security_at-was.ensures refl refl).1
 
@@ -16,7 +16,7 @@ change-requires-clause-row_value c =
     let p = c.security-at.ensures in
     let fits = c.requires.shares_bound in
     let is =
-    quote_is b e there p fits (c.requires.ready.written _) c.security_at-was.ensures refl refl c.sum-volume.ensures
+    quote_is b e there p fits (c.requires.ready.written _) c.security_at-was.ensures refl refl c.sum.ensures
     c.row.ensures
     in
     quote_stays b e there p fits is
@@ -29,7 +29,7 @@ returns c =
     let p = c.security-at.ensures in
     let fits = c.requires.shares_bound in
     let is =
-    quote_is b e there p fits (c.requires.ready.written _) c.security_at-was.ensures refl refl c.sum-volume.ensures
+    quote_is b e there p fits (c.requires.ready.written _) c.security_at-was.ensures refl refl c.sum.ensures
     c.row.ensures
     in
     let all =

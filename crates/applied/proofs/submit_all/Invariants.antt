@@ -1,16 +1,12 @@
--- What is left of the places, submitted in the book as it is, leads to the whole; requests stand where they stood. The
--- measure is what is left.
-use Rattle.std.proofs.Common.{◌-◌, take}
+-- What is left of the places, submitted in the book as it is, leads to the whole; requests stand where they stood.
+use Rattle.std.proofs.Common.{take}
 use Rattle.laws.specs.Search.{run}
 use Rattle.model.specs.Rows.{rows}
 use Rattle.applied.specs.Submit.{Submitting, numbers, sent_in}
 use Rattle.applied.proofs.submit_all.Given as goal
 
-abbrev pub invariant-loop-k : goal.invariant-loop-k
-invariant-loop-k l =
+abbrev pub invariant-loop-place : goal.invariant-loop-place
+invariant-loop-place l =
     Submitting l.time.0 l.initial.book l.at l.n
     (run (sent_in l.time.0) (rows l.initial.book) (numbers l.initial.book (take l.n l.at))) l.initial.left.free l.book
-    l.dir l.left l.k
-
-abbrev pub decreases-loop-k : goal.decreases-loop-k
-decreases-loop-k l = l.n - l.k
+    l.dir l.left l.place-index

@@ -1,5 +1,6 @@
 -- The walk ends where the need is met, where a lot is closed in part, or where no lot is left; else the next lot is
 -- closed in whole.
+use Rattle.std.proofs.Common.{◌≡◌, arith}
 use Rattle.closed.specs.Close.{close_end, close_met, close_more, close_part, close_room, lot_near, lot_steps}
 use Rattle.closed.proofs.add_closings.Goals as goal
 
@@ -45,4 +46,6 @@ loop-i-preserved c =
     c.if-plain-ne0.false c.step-w.ensures.value c.step-w.ensures.within_2
 
 pub returns : goal.returns
-returns c = close_end c.loop-i.invariant c.loop-i-test.false
+returns c =
+    let end : c.loop-i.i ≡ c.args.n = omega arith in
+    rw end at (close_end c.loop-i.invariant c.loop-i-test.false)

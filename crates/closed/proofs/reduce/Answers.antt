@@ -11,7 +11,7 @@ change-requires-clause-row_value c =
     let v = c.args in
     let asks =
     part_asks v.trade v.at.now v.closed c.requires.ready c.plain.ensures.value c.if-plain-eq0.false
-    c.wide-place.ensures c.remaining-shares.ensures.value c.lot_at.ensures c.lot_after.ensures
+    c.from-place.ensures c.remaining-shares.ensures.value c.lot_at.ensures c.lot_after.ensures
     in
     asks.1
 
@@ -19,5 +19,5 @@ pub returns : goal.returns
 returns c =
     let v = c.args in
     part_kept v.trade v.at.now v.closed c.requires.ready c.plain.ensures.value c.if-plain-eq0.false
-    c.wide-place.ensures c.remaining-shares.ensures.value c.lot_at.ensures c.lot_after.ensures
+    c.from-place.ensures c.remaining-shares.ensures.value c.lot_at.ensures c.lot_after.ensures
     c.change.ensures.book_after c.change.ensures.directory_2

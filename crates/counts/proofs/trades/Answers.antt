@@ -11,7 +11,8 @@ loop-i-init c = sum_start _ _ _
 pub loop-i-preserved : goal.loop-i-preserved
 loop-i-preserved c =
     let one = c.bit-sum.ensures in
-    sum_more c.loop-i.invariant c.loop-i-test.true refl (one.0 ∙ ap bit c.counts.ensures) one.1
+    let here = rw c.places-i-end.ensures at c.loop-i-test.true in
+    sum_more c.loop-i.invariant here refl (one.0 ∙ ap bit c.counts.ensures) one.1
 
 pub returns : goal.returns
-returns c = sum_all c.loop-i.invariant c.loop-i-test.false
+returns c = sum_all c.loop-i.invariant (rw c.places-i-end.ensures at c.loop-i-test.false)

@@ -1,13 +1,14 @@
 -- Each turn puts the two rows of its record in their places: `fill_more`.
-use Rattle.std.proofs.Common.{◌∙◌, rules}
-use Rattle.lookup.specs.Fill.{fill_all, fills, whole}
+use Rattle.std.proofs.Common.{◌∙◌}
+use Rattle.lookup.specs.Fill.{fill_all, fill_more, whole}
 use Rattle.lookup.proofs.answer_all.Goals as goal
 
-pub loop-i-init : goal.loop-i-init
-loop-i-init c = search (rules, fills)
-
 pub loop-i-preserved : goal.loop-i-preserved
-loop-i-preserved c = search (rules, fills)
+loop-i-preserved c =
+    fill_more c.loop-i.invariant _ (rw c.places-i-end.ensures at c.loop-i-test.true) c.asked.ensures
+    c.answer_one.ensures.answers
 
 pub returns : goal.returns
-returns c = fill_all c.loop-i.invariant (search rules) ∙ whole _ _ _ c.requires.answer_value
+returns c =
+    fill_all c.loop-i.invariant (rw c.places-i-end.ensures at c.loop-i-test.false)
+    ∙ whole _ _ _ c.requires.answer_value

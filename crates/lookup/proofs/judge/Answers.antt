@@ -2,5 +2,5 @@
 use Rattle.lookup.specs.Fill.{judged}
 use Rattle.lookup.proofs.judge.Goals as goal
 
-pub returns : goal.returns
-returns c = judged _ _ c.all_known.ensures c.also.ensures
+pub returns-clause-value : goal.returns-clause-value
+returns-clause-value c = judged _ _ c.all_known.ensures c.check.ensures.value

@@ -11,7 +11,7 @@ sweep_entry-left-requires c = c.loop-i.invariant.1
 
 pub loop-i-preserved : goal.loop-i-preserved
 loop-i-preserved c =
-    let inside = rw c.places-n.ensures at c.loop-i-test.true in (
+    let inside = rw c.places-i-end.ensures at c.loop-i-test.true in (
       sweep_next c.args.input.now c.args.book.now c.loop-i.i c.loop-i.book c.loop-i.invariant.0 _ inside
           c.entry_at.ensures c.sweep_entry-left.ensures.book_after,
       c.sweep_entry-left.ensures.directory,
@@ -23,6 +23,6 @@ returns c =
     record {
       book_after =
           sweep_all c.args.input.now c.args.book.now c.loop-i.i c.loop-i.book inv.0
-          (rw c.places-n.ensures at c.loop-i-test.false);
+          (rw c.places-i-end.ensures at c.loop-i-test.false);
       directory = inv.1;
     }

@@ -1,5 +1,5 @@
--- What the entries before place i leave of the rows is there. The measure is the number of entries left.
-use Rattle.std.proofs.Common.{◌≡◌, ◌-◌, map, take}
+-- What the entries before place i leave of the rows is there.
+use Rattle.std.proofs.Common.{◌≡◌, map, take}
 use Rattle.model.specs.Rows.{rows}
 use Rattle.directory.specs.Directory.{Directory}
 use Rattle.feed.specs.Sweep.{left}
@@ -8,6 +8,3 @@ use Rattle.feed.proofs.sweep.sweep.Given as goal
 abbrev pub invariant-loop-i : goal.invariant-loop-i
 invariant-loop-i l =
     (rows l.book ≡ map (left (take l.i (rows l.input))) (rows l.initial.book)) × Directory l.book l.dir l.left
-
-abbrev pub decreases-loop-i : goal.decreases-loop-i
-decreases-loop-i l = l.n - l.i

@@ -7,7 +7,7 @@ pub loop-i-init : goal.loop-i-init
 loop-i-init c = count_start _ _
 
 pub collect-sum-requires : goal.collect-sum-requires
-collect-sum-requires c = (c.requires, rw c.places-n.ensures at c.loop-i-test.true, search rules)
+collect-sum-requires c = (c.requires, rw c.places-i-end.ensures at c.loop-i-test.true, search rules)
 
 pub overflow_add-sum : goal.overflow_add-sum
 overflow_add-sum c =
@@ -18,8 +18,8 @@ overflow_add-sum c =
 
 pub loop-i-preserved : goal.loop-i-preserved
 loop-i-preserved c =
-    let inside = rw c.places-n.ensures at c.loop-i-test.true in
+    let inside = rw c.places-i-end.ensures at c.loop-i-test.true in
     count_more c.loop-i.invariant inside (search rules) c.requires.few c.collect-sum.ensures
 
 pub returns : goal.returns
-returns c = count_all c.loop-i.invariant (rw c.places-n.ensures at c.loop-i-test.false)
+returns c = count_all c.loop-i.invariant (rw c.places-i-end.ensures at c.loop-i-test.false)

@@ -1,6 +1,5 @@
--- The entries from place i on, of the first k, decide whether any hits the request. The measure is the number of those
--- left.
-use Rattle.std.proofs.Common.{◌-◌, take}
+-- The entries from place i on, of the first k, decide whether any hits the request.
+use Rattle.std.proofs.Common.{take}
 use Rattle.model.specs.Rows.{rows}
 use Rattle.hits.specs.Hits.{any_reaches}
 use Rattle.hits.specs.Judge.{Hitting}
@@ -8,6 +7,3 @@ use Rattle.hits.proofs.judge.hit_before.Given as goal
 
 abbrev pub invariant-loop-i : goal.invariant-loop-i
 invariant-loop-i l = Hitting l.request l.input l.k (any_reaches (take l.k (rows l.input)) l.request) l.i
-
-abbrev pub decreases-loop-i : goal.decreases-loop-i
-decreases-loop-i l = l.k - l.i

@@ -1,19 +1,8 @@
--- Each turn adds the shares of one entry: `add_more`.
-use Rattle.std.proofs.Common.{arith, rules}
+-- The shares that are told of an entry are those that count for the symbol.
+use Rattle.std.proofs.Common.{rules}
 use Rattle.facts.specs.Feed.{shares_for}
-use Rattle.hits.specs.Judge.{add_all, add_more, add_size, add_start, both_fit}
 use Rattle.hits.proofs.judge.shares_for.Goals as goal
 
-pub loop-i-init : goal.loop-i-init
-unfolding shares_for
-loop-i-init c = add_start _ _
-
-pub plus-sum-requires : goal.plus-sum-requires
-plus-sum-requires c = both_fit (add_size c.loop-i.invariant c.requires) c.shares_at.ensures (omega arith)
-
-pub loop-i-preserved : goal.loop-i-preserved
-loop-i-preserved c =
-    add_more c.loop-i.invariant c.requires (search rules) c.shares_at.ensures c.plus-sum.ensures.value
-
 pub returns : goal.returns
-returns c = add_all c.loop-i.invariant c.requires (search rules)
+unfolding shares_for
+returns c = c.sum.ensures _ (λ i x told. search rules)
