@@ -1,27 +1,19 @@
 // How a call ends: the first check that fails, the number of its status, and the answer of a refusal.
 #![tactic(auto)]
 
-ghost use Rattle.std.specs.Prelude.{◌≡◌, Bool, true, false, not, ◌≤◌, length, replicate, MatchResult};
+ghost use Rattle.std.specs.Prelude.{◌≡◌, true, false, not, ◌≤◌, length, MatchResult};
 ghost use Rattle.model.specs.Band.{no_band as has_no_band, zero_rate};
 ghost use Rattle.model.specs.Status.{is_done, number};
-ghost use Rattle.model.specs.Call.{either, refusal_area};
+ghost use Rattle.model.specs.Call.{refusal_area};
 ghost use Rattle.model.specs.Rows.{record_size};
 ghost use Rattle.model.specs.Plan.{also};
 ghost use Rattle.reply.specs.Ending.{Refuses, ended};
 ghost use Rattle.reply.specs.Refusal.{refusal};
 
-use directory::totals::Totals;
 use model::{BandAnswer, Status};
 use places::place::nothing;
 use places::put::put;
 use record::row::Row;
-
-// How an inner call ends: its status, and the totals of the book that it leaves.
-#[derive(Clone, Copy)]
-pub struct Ended {
-    pub status: Status,
-    pub totals: Totals,
-}
 
 // The number of a status. `From` could be implemented only beside `Status`, in `model`, where nothing runs.
 pub fn code(s: Status) -> i32
@@ -69,31 +61,6 @@ fn refuse(area: &mut [u8], s: Status)
 {
     area.fill(0);
     put(area, 0, refusal(s));
-}
-
-// The call was not refused.
-pub fn done(s: Status) -> bool
-    ensures { result ≡ is_done s }
-{
-    code(s) == 0
-}
-
-// The status so far, and one more check. The first that fails gives the status.
-pub fn also(s: Status, passes: bool, otherwise: Status) -> Status
-    ensures { result ≡ also s passes otherwise }
-{
-    if done(s) & !passes { otherwise } else { s }
-}
-
-// The status so far, and what the search for a band answered: a rate of zero and no band each have their own status.
-pub fn also_rated(s: Status, band: BandAnswer, no_rate: Status, no_band: Status) -> Status
-    ensures { result ≡ also (also s (not (zero_rate band)) no_rate) (not (has_no_band band)) no_band }
-{
-    match band {
-        BandAnswer::Rate(_) => s,
-        BandAnswer::ZeroRate => also(s, false, no_rate),
-        BandAnswer::NoBand => also(s, false, no_band),
-    }
 }
 
 // One check of a call, which refuses it where it fails.
