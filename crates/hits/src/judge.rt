@@ -42,9 +42,7 @@ pub fn hits(entry: FeedInput, request: Request) -> bool
     let bid = request.bid.0;
     let below = ((form == TradeType::TLB) | (form == TradeType::TSL)) & (price <= bid);
     let above = (form == TradeType::TLS) & (bid <= price);
-    let own = request.symbol;
-    let other = entry.symbol;
-    (own == other) & (below | above)
+    (request.symbol == entry.symbol) & (below | above)
 }
 
 // One of the first k entries hits the request.
@@ -100,8 +98,7 @@ fn shares_at(input: &[u8], symbol: Symbol, i: usize) -> Shares
     ensures { Many entry_most (shares_on symbol (row_at input.now i)) result }
 {
     let entry = typed_at::<FeedInput>(input, i);
-    let own = entry.symbol;
-    if (own == symbol) {
+    if entry.symbol == symbol {
         entry.shares
     } else {
         Shares(0)
