@@ -17,7 +17,8 @@ ghost use Rattle.reply.specs.Ending.{Refuses, ended};
 ghost use Rattle.directory.specs.Directory.{Directory};
 ghost use Rattle.directory.specs.Listed.{Listed, places};
 ghost use Rattle.hits.specs.Hits.{any_reaches, due, first_hit, reaches};
-ghost use Rattle.hits.specs.Judge.{Counts, Many, all_known, entries_most, entry_most, shares_in, shares_on, volume_fits};
+ghost use Rattle.hits.specs.Judge.{Counts, Many, entries_most, entry_most, shares_in, shares_on};
+ghost use Rattle.hits.specs.Judge.{all_known, volume_fits};
 
 use directory::build::places;
 use directory::totals::Totals;
@@ -110,7 +111,8 @@ fn sum<F: Fn(usize) -> Shares>(input: &[u8], shares: F) -> Shares
     requires callable { F.IsAlwaysCallable shares }
     requires input_value { whole_records most_inputs (length input.now) ≡ true }
     requires small { (i : ℕ) (x : Shares) → F.post shares i x → Many entry_most (up x.0) x }
-    ensures { (f : Row → ℕ) → Counts (F.post shares) input.now f → Many entries_most (total f (rows input.now)) result }
+    ensures { (f : Row → ℕ) → Counts (F.post shares) input.now f →
+        Many entries_most (total f (rows input.now)) result }
 {
     let mut sum = Shares(0);
     for i in 0..places(input) {

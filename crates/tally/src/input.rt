@@ -5,8 +5,8 @@ ghost use Rattle.std.specs.Io.KnownBytes.{Consumes};
 use std::io::Read;
 
 // Reads until the area is full or the input ends, and answers how many bytes it put at the area's front: the input's
-// next ones, none left out. A read that fails ends the input: `read_exact` would try again where it was interrupted, and
-// fails where the input is shorter.
+// next ones, none left out. A read that fails ends the input: `read_exact` would try again where it was interrupted,
+// and fails where the input is shorter.
 pub fn read_full<R: Read>(input: &mut R, area: &mut [u8]) -> usize
     ensures fits { result ≤ length area.new }
     ensures taken { Consumes (R.remaining input.old) (R.remaining input.new) (take result area.new) }

@@ -16,4 +16,7 @@ loop-i-preserved c =
 pub returns : goal.returns
 returns c =
     let inv = c.loop-i.invariant in
-    record { book_after = apply_end inv (rw c.places-i-end.ensures at c.loop-i-test.false); directory = inv.ready.directory }
+    record {
+      book_after = apply_end inv (rw c.places-i-end.ensures at c.loop-i-test.false);
+      directory = inv.ready.directory;
+    }

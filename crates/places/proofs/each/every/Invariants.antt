@@ -8,4 +8,5 @@ use Rattle.places.specs.Loop.{Checked}
 use Rattle.places.proofs.each.every.Given as goal
 
 abbrev pub invariant-loop-i : goal.invariant-loop-i
-invariant-loop-i g l = (p : Row → Bool) → Tells (goal.F-post g l.test) l.book p → Checked p l.book (every p (rows l.book)) l.i
+invariant-loop-i g l =
+    (p : Row → Bool) → Tells (goal.F-post g l.test) l.book p → Checked p l.book (every p (rows l.book)) l.i
