@@ -1,4 +1,5 @@
-// The place of a row by what names it, the number of places where there is none.
+// The place of a row by what names it, the number of places where there is none. A line for each kind on `named`, which takes
+// the kind's names by their types: an impl of a trait for each would be longer.
 ghost use Rattle.std.specs.Prelude.{◌≡◌, false, eqb};
 ghost use Rattle.laws.specs.Search.{place};
 ghost use Rattle.record.specs.Codes.{kind_trade_history};

@@ -15,6 +15,7 @@ use record::row::Row;
 use rules::limited::in_limits;
 use rules::obey::{Spelt, beyond, obeys};
 
+// Each kind of input has two lines here, its rule and its promise: a trait would have an impl for each.
 pub fn is_order(part: &[u8]) -> bool
     requires { length part.now ≡ 64 }
     ensures { result ≡ order_input (decode part.now) }

@@ -4,7 +4,8 @@
 
 use units::PerTenThousand;
 
-// What the search for a commission band answers: `band_answer` of specs/Band.antt says which of the three, and when.
+// What the search for a commission band answers: `band_answer` of specs/Band.antt says which of the three, and when. No
+// Result: the definitions of the model and `band_answers` of demands speak of these three cases.
 #[derive(Clone, Copy)]
 pub enum BandAnswer {
     Rate(PerTenThousand),
@@ -12,7 +13,8 @@ pub enum BandAnswer {
     NoBand,
 }
 
-// How a call ends. The number of each is `number` of specs/Status.antt.
+// How a call ends. The number of each is `number` of specs/Status.antt. `Done` is among them, as the exported promises speak
+// of one status; in the code a call's end is a Result.
 #[derive(Clone, Copy)]
 pub enum Status {
     Done,

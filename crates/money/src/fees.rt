@@ -18,7 +18,7 @@ pub fn value(shares: Shares, price: Price) -> Cents
     ensures value { result ≡ cents (pos (up shares.0 * price.0)) }
     ensures up_to { UpTo value_most result.0 }
 {
-    Cents::of(times(shares.plain(), price.0 as u64))
+    Cents::of(times(shares.plain(), u64::from(price.0)))
 }
 
 fn taxable(tax_status: u8, bought: Cents, sold: Cents) -> bool
@@ -35,7 +35,7 @@ pub fn tax(tax_status: u8, rates: PerHundredThousand, bought: Cents, sold: Cents
 {
     if taxable(tax_status, bought, sold) {
         let gain = sold.plain() - bought.plain();
-        return part(gain, rates.0 as u64, Ranges::RATE_MOST as u64);
+        return part(gain, u64::from(rates.0), u64::from(Ranges::RATE_MOST));
     }
     Cents(0)
 }
@@ -64,5 +64,9 @@ pub fn commission(rate: PerTenThousand, shares: Shares, price: Price) -> Cents
     ensures up_to { UpTo fee.high result.0 }
 {
     let value = value(shares, price);
-    part(value.plain(), rate.0 as u64, Ranges::COMMISSION_MOST as u64)
+    part(
+        value.plain(),
+        u64::from(rate.0),
+        u64::from(Ranges::COMMISSION_MOST),
+    )
 }

@@ -1,4 +1,5 @@
-// The numbers that stand for a kind of record, a trade type and a trade status.
+// The numbers that stand for a kind of record, a trade type and a trade status. They are bytes and no enums: a row keeps
+// whatever bytes a record has (`encode_decode`), and a typed value is read from any bytes (`Typed::from_bytes`).
 #[derive(Clone, Copy)]
 pub struct Kind {}
 

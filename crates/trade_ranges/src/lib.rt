@@ -1,4 +1,5 @@
-// The ranges of the fields of each kind that trade leaves: the constant of the kind, met with the table of the model.
+// The ranges of the fields of each kind that trade leaves: the constant of the kind, met with the table of the model. A
+// function for each kind: each promises its own line of the table, which a generic one could not name.
 #![tactic(auto)]
 
 ghost use Rattle.std.specs.Prelude.{◌≡◌};

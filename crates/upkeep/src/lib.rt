@@ -51,7 +51,7 @@ fn leave(book: &[u8], dir: &mut [u16], at: usize)
     unlink(dir, x, at);
 }
 
-// Puts a place that is in no chain into that of its row.
+// Puts a place that is in no chain into that of its row. It differs from `leave` in the step itself.
 fn enter(book: &[u8], dir: &mut [u16], at: usize)
     requires { Without book.now dir.old at }
     ensures { Listed book.now dir.new }

@@ -120,6 +120,7 @@ pub fn broker_after(broker: Broker, commission: Cents) -> Row
     Row::from(after)
 }
 
+// Three kinds of one form: a trait for the field that changes would be longer.
 pub fn account_after(account: Account, balance: Cents) -> Row
     ensures { result ≡ holding (account_row account) balance.0 }
 {

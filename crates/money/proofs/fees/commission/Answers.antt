@@ -13,5 +13,11 @@ returns-clause-value c =
     let price = c.args.price.0 in
     let rate = c.args.rate.0 in
     let product = mul_comm (shares * price) rate ∙ sym (mul_assoc rate shares price) in
-    rw (c.part.ensures.value, c.plain.ensures.value, c.value-value.ensures.value)
+    rw (
+      c.part.ensures.value,
+      c.plain.ensures.value,
+      c.value-value.ensures.value,
+      c.from.ensures,
+      c.from-2.ensures,
+    )
     (ap (λ (n : ℕ). cents (pos (rounded n commission_whole))) product)

@@ -13,7 +13,7 @@ pub returns-then-taxable-clause-value : goal.returns-then-taxable-clause-value
 unfolding tax_of
 returns-then-taxable-clause-value c =
     let t = sym c.taxable.ensures ∙ c.if-taxable.true in
-    rw (c.part.ensures.value, c.plain.ensures.value, c.plain-then-taxable.ensures.value, t)
+    rw (c.part.ensures.value, c.plain.ensures.value, c.plain-then-taxable.ensures.value, c.from.ensures, c.from-then-taxable.ensures, t)
 
 pub returns-clause-value : goal.returns-clause-value
 unfolding tax_of
