@@ -34,7 +34,7 @@ struct Lent(*const u8, usize);
 #[repr(C)]
 #[derive(Clone, Copy)]
 struct Totals(u64, u64);
-/// The status and the totals of an inner call, wherever they stand.
+/// What an inner call answers: the totals of the book that it leaves, or the refusal; wherever they stand.
 type Ended = [u64; 8];
 
 extern "C" {
