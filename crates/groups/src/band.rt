@@ -35,15 +35,13 @@ fn holds(book: &[u8], form: u8, tier: u8, exchange: u8, shares: Shares, at: usiz
 {
     let record = part(book, at);
     let band = Band::from_bytes(record);
-    let from = band.from;
-    let to = band.to;
     let many = shares.plain();
     (record[Grid::KIND] == Kind::BAND)
         & (band.trade_type == form)
         & (band.tier == tier)
         & (band.exchange == exchange)
-        & (from.plain() <= many)
-        & (many <= to.plain())
+        & (band.from.plain() <= many)
+        & (many <= band.to.plain())
 }
 
 // The place of the band that holds the shares, the number of places where there is none.

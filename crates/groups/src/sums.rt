@@ -27,15 +27,11 @@ use units::{AccountNo, Amount, CustomerNo, PerHundredThousand, Shares};
 fn overlap(a: Band, b: Band) -> bool
     ensures { result ≡ meet a b }
 {
-    let from = a.from;
-    let to = a.to;
-    let other_from = b.from;
-    let other_to = b.to;
     (a.trade_type == b.trade_type)
         & (a.tier == b.tier)
         & (a.exchange == b.exchange)
-        & (from.plain() <= other_to.plain())
-        & (other_from.plain() <= to.plain())
+        & (a.from.plain() <= b.to.plain())
+        & (b.from.plain() <= a.to.plain())
 }
 
 // The record at a place is a band that overlaps this one.

@@ -34,64 +34,46 @@ fn first_status(input: OrderInput) -> u8
 fn trade_row(input: OrderInput, terms: Terms, estimate: Estimate) -> Row
     ensures { result ≡ trade_of input terms estimate }
 {
-    let no = terms.number;
-    let account = input.account;
-    let symbol = input.symbol;
-    let shares = input.shares;
-    let bid = estimate.price;
-    let charge = terms.charge;
-    let commission = estimate.commission;
-    let time = input.time;
-    let trade = Trade {
-        no,
+    Row::from(Trade {
+        no: terms.number,
         trade_type: input.trade_type,
         status: first_status(input),
         flags: input.flags % 4,
-        account,
-        symbol,
-        shares,
-        bid,
+        account: input.account,
+        symbol: input.symbol,
+        shares: input.shares,
+        bid: estimate.price,
         price: Price(0),
-        charge,
-        commission,
+        charge: terms.charge,
+        commission: estimate.commission,
         tax: Cents(0),
-        time,
-    };
-    Row::from(trade)
+        time: input.time,
+    })
 }
 
 #[tactic(auto, unfolding(crate::specs::Post::history_of))]
 fn history_row(input: OrderInput, terms: Terms) -> Row
     ensures { result ≡ history_of input terms }
 {
-    let no = terms.number;
-    let time = input.time;
-    let history = TradeHistory {
-        no,
+    Row::from(TradeHistory {
+        no: terms.number,
         status: first_status(input),
-        time,
-    };
-    Row::from(history)
+        time: input.time,
+    })
 }
 
 #[tactic(auto, unfolding(crate::specs::Post::request_of))]
 fn request_row(input: OrderInput, terms: Terms, estimate: Estimate) -> Row
     ensures { result ≡ request_of input terms estimate }
 {
-    let no = terms.number;
-    let broker = terms.holder.row.broker;
-    let symbol = input.symbol;
-    let shares = input.shares;
-    let bid = estimate.price;
-    let request = Request {
-        no,
+    Row::from(Request {
+        no: terms.number,
         trade_type: input.trade_type,
-        broker,
-        symbol,
-        shares,
-        bid,
-    };
-    Row::from(request)
+        broker: terms.holder.row.broker,
+        symbol: input.symbol,
+        shares: input.shares,
+        bid: estimate.price,
+    })
 }
 
 // The answer of an order that is done, posted or rolled back.
@@ -99,18 +81,17 @@ fn request_row(input: OrderInput, terms: Terms, estimate: Estimate) -> Row
 pub fn answer_row(terms: Terms, estimate: Estimate) -> Row
     ensures { result ≡ answer_of terms estimate }
 {
-    let w = estimate.walk;
-    let band = terms.band;
-    let mut a = nothing();
-    a.kind = Kind::ORDER;
-    a.id = terms.number.0;
-    a.symbol = Symbol::holding(estimate.tax.bits());
-    a.n1 = terms.charge.low();
-    a.n2 = commission_rate(band).0;
-    a.n3 = estimate.price.0;
-    a.m1 = w.bought.bits();
-    a.m2 = w.sold.bits();
-    a
+    Row {
+        kind: Kind::ORDER,
+        id: terms.number.0,
+        symbol: Symbol::holding(estimate.tax.bits()),
+        n1: terms.charge.low(),
+        n2: commission_rate(terms.band).0,
+        n3: estimate.price.0,
+        m1: estimate.walk.bought.bits(),
+        m2: estimate.walk.sold.bits(),
+        ..nothing()
+    }
 }
 
 fn rolls_back(flags: u8) -> bool
