@@ -4,12 +4,10 @@
 
 ghost use Rattle.std.specs.Prelude.{◌≡◌, ◌+◌, ◌<◌, ◌≤◌, nat_abs, length, take};
 ghost use Rattle.record.specs.Signed.{up};
-ghost use Rattle.kinds.specs.Kinds.{lot_of};
 ghost use Rattle.kinds.specs.Written.{trade_row};
 ghost use Rattle.rules.specs.Ranges.{shares_most};
 ghost use Rattle.model.specs.Result.{closing_rows};
 ghost use Rattle.model.specs.Rows.{most_records};
-ghost use Rattle.places.specs.Rows.{row_at};
 ghost use Rattle.money.specs.Amounts.{UpTo, value_most};
 ghost use Rattle.walk.specs.Walk.{Within};
 ghost use Rattle.upkeep.specs.Added.{Added, Room};

@@ -6,7 +6,6 @@ ghost use Rattle.std.specs.Prelude.{map, ◌≡◌, ◌+◌, ◌<◌, ◌≤◌,
 ghost use Rattle.std.specs.Int.Signed.{lt_z};
 ghost use Rattle.laws.specs.Search.{bit};
 ghost use Rattle.laws.specs.Tests.{◌⇔◌};
-ghost use Rattle.kinds.specs.Kinds.{lot_of};
 ghost use Rattle.model.specs.Rows.{most_records};
 ghost use Rattle.model.specs.Sound.{short};
 ghost use Rattle.places.specs.Rows.{row_at};

@@ -1,7 +1,7 @@
 // What an order reads of a book, by the directory.
 ghost use Rattle.std.specs.Prelude.{true, ◌≡◌, pos};
 ghost use Rattle.units.specs.Units.{cents};
-ghost use Rattle.model.specs.Names.{a_charge, a_customer};
+ghost use Rattle.model.specs.Names.{a_charge};
 ghost use Rattle.model.specs.Order.{permitted};
 ghost use Rattle.model.specs.Rows.{found, rows};
 ghost use Rattle.model.specs.Sound.{sound};
@@ -19,7 +19,7 @@ use kinds::rows::{Account, Charge, Security};
 use model::BandAnswer;
 use places::place::typed_at;
 use record::symbol::Symbol;
-use units::{AccountNo, Cents, CustomerNo, ExecutorNo, PerHundredThousand, TradeNo};
+use units::{AccountNo, Cents, ExecutorNo, PerHundredThousand, TradeNo};
 
 // An account, and whether it is there.
 #[derive(Clone, Copy)]

@@ -1,6 +1,5 @@
 // Counts and sums over the rows of one group.
-ghost use Rattle.std.specs.Prelude.{◌≡◌, false, true, ◌+◌, ◌^◌, ◌≤◌, ◌<◌, leb, pos};
-ghost use Rattle.std.specs.Int.Signed.{lt_z};
+ghost use Rattle.std.specs.Prelude.{◌≡◌, false, true, ◌+◌, ◌^◌, ◌≤◌, ◌<◌, leb};
 ghost use Rattle.laws.specs.Search.{bit, count};
 ghost use Rattle.rules.specs.Ranges.{tax_part};
 ghost use Rattle.rules.specs.Rules.{fits};

@@ -1,6 +1,4 @@
 // The four kinds of input record, in the form of the rows: the rule of each, and a typed value from its bytes.
-ghost use Rattle.std.specs.Prelude.{◌≡◌, length};
-ghost use Rattle.record.specs.Grid.{decode};
 ghost use Rattle.kinds.specs.Inputs.{feed_input_of, lookup_input_of, order_input_of, result_input_of};
 
 use crate::limits::{Beyond, Clause, Limits, Ranges, Rule, Span};

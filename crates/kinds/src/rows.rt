@@ -1,7 +1,6 @@
 // The seventeen kinds of row: where each has its fields, their limits, what it asks beyond them, the fields of its key,
 // a value of the kind from a record's bytes, and, of the kinds that the calls write, the row of a value.
-ghost use Rattle.std.specs.Prelude.{◌≡◌, length};
-ghost use Rattle.record.specs.Grid.{decode};
+ghost use Rattle.std.specs.Prelude.{◌≡◌};
 ghost use Rattle.kinds.specs.Kinds.{broker_of, customer_of, tax_rate_of, customer_rate_of, account_of, security_of};
 ghost use Rattle.kinds.specs.Kinds.{band_of, charge_of, trade_of, request_of, trade_history_of, lot_of, summary_of};
 ghost use Rattle.kinds.specs.Kinds.{lot_history_of, settlement_of, cash_of, permission_of};

@@ -1,15 +1,8 @@
 -- The numbers on the way to a tax, a commission, a settlement and a balance, each under the name that it has in the
 -- code; and that each is below 2^62 where what it is made of fits: "Work the rounding out from whole part and
 -- remainder, so that each intermediate stays below 2^62." (2026-06) Assumes nothing.
-use Rattle.std.specs.Prelude.{◌≡◌, Bool, true, false, cond, ℕ, ◌+◌, ◌-◌, ◌*◌, ◌/◌, ◌%◌, ◌^◌, ◌≤◌, ◌<◌, eqb, ℤ, pos, neg_ℤ, nat_abs, ◌+ℤ◌, ◌-ℤ◌}
-use Rattle.std.proofs.Common.{sym, ap, ◌∙◌, add-mul, div-le_self, div-mul-le_self, le_trans, mod-lt, mul_assoc, mul_comm, mul-le-mul, mul-le-mul_left, mul-le-mul_right, arith}
-use Rattle.std.proofs.Math.Nat.{div-add-mod, mul-add-div}
-use Rattle.units.specs.Sizes.{abs_add, abs_neg}
-use Rattle.rules.specs.Ranges.{charged, commission_whole, fee, money_most, price_most, shares_most, tax_whole}
-use Rattle.model.specs.Money.{rounded}
-use Rattle.money.specs.Amounts.{value_most}
-use Rattle.money.specs.Fees.{half_up, nearest_most, value_most_holds}
-use Rattle.money.specs.Settle.{kept}
+use Rattle.std.specs.Prelude.{ℕ, ◌+◌, ◌*◌, ◌/◌, ◌%◌, ◌^◌, ◌≤◌, ◌<◌, ℤ, pos, neg_ℤ, nat_abs, ◌+ℤ◌, ◌-ℤ◌}
+use Rattle.rules.specs.Ranges.{fee}
 
 -- ---- `part`: so much of an amount as a rate is of its whole
 module _ (amount rate whole : ℕ) where

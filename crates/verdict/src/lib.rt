@@ -1,7 +1,7 @@
 // What a result is refused for, in the order of checking.
 #![tactic(auto)]
 
-ghost use Rattle.std.specs.Prelude.{cond, ◌≡◌, ◌≤◌, leb, nat_abs};
+ghost use Rattle.std.specs.Prelude.{◌≡◌, ◌≤◌, leb, nat_abs};
 ghost use Rattle.record.specs.Signed.{up};
 ghost use Rattle.rules.specs.Ranges.{fee, money_most};
 ghost use Rattle.model.specs.Rows.{most_records};
