@@ -22,8 +22,8 @@ fn records(book: &[u8]) -> u16
     u16::try_from(book.len() / Grid::SIZE).unwrap_or(0)
 }
 
-// The shell of a call that changes a book, with a directory of so many cells. Inlined, a call for a small book would pay
-// for the largest.
+// The shell of a call that changes a book, with a directory of so many cells. Inlined, a call for a small book would
+// pay for the largest.
 #[inline(never)]
 fn within_cells<const CELLS: usize>(
     call: Call,

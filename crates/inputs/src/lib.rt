@@ -30,8 +30,8 @@ pub fn is_result(part: &[u8]) -> bool
     obeys(Row::read(part), ResultInput::RULE)
 }
 
-// Feeds and lookups have up to twenty entries. So their rules are asked for in their two parts, and not by `obeys`: a rule
-// that is at hand as a constant takes some 125 instructions less.
+// Feeds and lookups have up to twenty entries. So their rules are asked for in their two parts, and not by `obeys`: a
+// rule that is at hand as a constant takes some 125 instructions less.
 #[inline(always)]
 fn keeps(r: Row, rule: Rule) -> bool
     ensures { result ≡ obeys (shape_of rule) r }

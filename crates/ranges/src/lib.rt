@@ -1,5 +1,5 @@
-// The ranges of the fields of each kind that stands whether or not there is trade: the constant of the kind, met with the
-// table of the model. A function for each kind: each promises its own line of the table, which a generic one could not name.
+// The ranges of the fields of each kind that stands whether or not there is trade: the constant of the kind, met with
+// the table of the model. A function for each kind: an impl of a trait that names the kind's line of the table is longer.
 #![tactic(auto)]
 
 ghost use Rattle.std.specs.Prelude.{◌≡◌};

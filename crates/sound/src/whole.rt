@@ -94,7 +94,8 @@ fn judged(book: &[u8], dir: &[u16], links: &mut [u16], marks: &mut [u8]) -> bool
     closing(book, dir, links, marks)
 }
 
-// The same in areas of their own, of so many links and marks. Inlined, a call for a small book would pay for the largest.
+// The same in areas of their own, of so many links and marks. Inlined, a call for a small book would pay for the
+// largest.
 #[inline(never)]
 fn judged_in<const LINKS: usize, const MARKS: usize>(book: &[u8], dir: &[u16]) -> bool
     requires listed { Listed book.now dir.now }
