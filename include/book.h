@@ -16,7 +16,7 @@
  * - What was in the answer area before does not matter.
  * - No state is kept between calls, nothing is allocated, and no call blocks. Threads may call at once if no area that
  *   one of them may write is an area of another.
- * - A call takes at most BOOK_MOST_STACK bytes of stack, 256 KiB. The most that was measured is 123 KiB, on x86-64.
+ * - A call takes at most BOOK_MOST_STACK bytes of stack, 256 KiB. The most that was measured is 114 KiB, on x86-64.
  *
  * The kinds
  * =========
