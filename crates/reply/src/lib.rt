@@ -66,9 +66,8 @@ fn refuse(area: &mut [u8], s: Status)
 // One check of a call, which refuses it where it fails.
 #[tactic(auto, unfolding(model::specs::Plan::also))]
 pub fn check(passes: bool, otherwise: Status) -> Result<(), Status>
-    requires { is_done otherwise ≡ false }
     ensures value { ended result ≡ also Status.Done passes otherwise }
-    ensures refusal { Refuses result }
+    ensures refusal { is_done otherwise ≡ false → Refuses result }
     ensures cases { MatchResult result (λ _. passes ≡ true) (λ s. (passes ≡ false) × (s ≡ otherwise)) }
 {
     if passes { Ok(()) } else { Err(otherwise) }
@@ -77,10 +76,9 @@ pub fn check(passes: bool, otherwise: Status) -> Result<(), Status>
 // What the search for a band answered: a rate of zero and no band each refuse with their own status.
 #[tactic(auto, unfolding(model::specs::Plan::also))]
 pub fn rated(band: BandAnswer, no_rate: Status, no_band: Status) -> Result<(), Status>
-    requires { (is_done no_rate ≡ false) × (is_done no_band ≡ false) }
     ensures value { ended result
         ≡ also (also Status.Done (not (zero_rate band)) no_rate) (not (has_no_band band)) no_band }
-    ensures refusal { Refuses result }
+    ensures refusal { (is_done no_rate ≡ false) × (is_done no_band ≡ false) → Refuses result }
 {
     match band {
         BandAnswer::Rate(_) => Ok(()),

@@ -11,7 +11,7 @@ returns-in_err-check-clause-value c =
     let gave = err_from_is_err_and c.from_residual.result c.from_residual.ensures.1 in
     rw (gave.1, gave.2)
     (judged _ _ c.requires.book_value c.requires.trades_value c.all_known.ensures one.value refl
-    (sym (stays _ _ _ one.refusal)) c.requires.directory.free (sym (stays _ _ _ one.refusal)))
+    (sym (stays _ _ _ (one.refusal refl))) c.requires.directory.free (sym (stays _ _ _ (one.refusal refl))))
 
 pub returns-in_err-check-2-clause-value : goal.returns-in_err-check-2-clause-value
 returns-in_err-check-2-clause-value c =
@@ -20,7 +20,7 @@ returns-in_err-check-2-clause-value c =
     let gave = err_from_is_err_and from.result from.ensures.1 in
     rw (gave.1, gave.2)
     (judged _ _ c.requires.book_value c.requires.trades_value c.all_known.ensures c.in_ok-check.ensures.value
-    c.volumes_fit.ensures two.value c.requires.directory.free (sym (stays _ _ _ two.refusal)))
+    c.volumes_fit.ensures two.value c.requires.directory.free (sym (stays _ _ _ (two.refusal refl))))
 
 pub returns-clause-value : goal.returns-clause-value
 returns-clause-value c =
