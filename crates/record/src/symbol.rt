@@ -1,7 +1,7 @@
 // A symbol: eight bytes, compared from the first one on. They are held as one number, the first byte highest, so that
 // numbers are ordered as the bytes are.
 ghost use Rattle.std.specs.Prelude.{◌≡◌, ◌+◌, ◌≤◌, length};
-ghost use Rattle.record.specs.Bytes.{be};
+ghost use Rattle.record.specs.Bytes.{be, turned};
 ghost use Rattle.record.specs.Symbol.{holding, symbol_at, symbol_bytes};
 ghost use Rattle.record.specs.Spelling.{follows, letter, symbol_ok};
 
@@ -10,12 +10,19 @@ use crate::bytes;
 #[derive(Clone, Copy, PartialEq, Eq, PartialOrd, Ord)]
 pub struct Symbol(pub u64);
 
+// The number with its four bytes in the other order.
+fn turned(x: u32) -> u32
+    ensures { result ≡ turned x }
+{
+    x.swap_bytes()
+}
+
 // The number of four bytes, the first one highest: turned, so that four bytes are one load.
 fn high_at(part: &[u8], at: usize) -> u32
     requires { at + 4 ≤ length part.now }
     ensures { result ≡ be 4 part.now at }
 {
-    bytes::u32_at(part, at).swap_bytes()
+    turned(bytes::u32_at(part, at))
 }
 
 // The number of eight bytes, the first one highest.

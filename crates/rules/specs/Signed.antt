@@ -16,7 +16,7 @@ pub means_near : (w : Width) (x most : ℕ) → Means (near w x most) (nat_abs (
 unfolding near
 means_near w x most = means_le (nat_abs (to_z w x)) most
 
--- as the code has it: the bits are low, or the complement is
+-- as the bits have it: they are low, or their complement is
 module _ (w : Width) (x m : ℕ) (whole : 2 ^ bits w ≡ 2 ^ hbits w + 2 ^ hbits w) (hx : x < 2 ^ bits w)
     (hm : m < 2 ^ hbits w) where
   low : x < 2 ^ hbits w → (leb x m || ltb (2 ^ bits w - 1 - x) m) ≡ near w x m

@@ -137,7 +137,8 @@ impl Amount for Shares {
     }
 
     fn raw(self) -> i64 {
-        self.0
+        let Shares(shares) = self;
+        shares
     }
 }
 
@@ -161,7 +162,8 @@ impl Amount for Cents {
     }
 
     fn raw(self) -> i64 {
-        self.0
+        let Cents(cents) = self;
+        cents
     }
 }
 
